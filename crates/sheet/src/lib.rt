@@ -1,0 +1,26 @@
+//! The sheet: stations, links by number, and the tree that a fleet's masts are aimed along.
+ghost use Prim.Native.Nat.{_≤_};
+ghost use Rattle.sheet.specs.Keeps.{Proper, Spans};
+use digraph::table::LinkTable;
+use crate::tree::Tree;
+
+pub mod adding;
+pub mod column;
+pub mod opening;
+pub mod pricing;
+pub mod questions;
+pub mod tree;
+pub mod withdrawing;
+
+/// A sheet: 2 to 40 stations, links between them, and at most one installed tree, which is always a
+/// spanning tree of links of the sheet. Prices lie in a column that the caller lends to each call.
+#[derive(Clone, Copy)]
+pub struct Sheet {
+    stations: u8,
+    links: LinkTable,
+    tree: Option<Tree>,
+    ghost some: { 2 ≤ stations },
+    ghost few: { stations ≤ 40 },
+    ghost proper: { Proper stations (links .slots) },
+    ghost spans: { Spans stations (links .slots) tree },
+}
