@@ -1,1 +1,4 @@
+pub mod OneEach
+pub mod Pigeons
+pub mod Searching
 pub mod Walks

@@ -1,3 +1,5 @@
+pub mod Counting
 pub mod Links
 pub mod Paths
+pub mod Search
 pub mod Trees

@@ -1,3 +1,5 @@
-//! Directed links between stations, and the table that keeps them by number.
+//! Directed links between stations, the table that keeps them by number, and the stations reached along them.
+pub mod counting;
 pub mod link;
+pub mod search;
 pub mod table;

@@ -17,6 +17,7 @@ use Rattle.std.proofs.shelf.Tests.{both-ways, cases-lt, eq-eqb, or-left, or-rig
 use Rattle.std.proofs.shelf.Ways.{tells}
 use Rattle.refusal.specs.Checks.{first}
 use Rattle.sheet.specs.Held.{Held}
+use Rattle.sheet.specs.Steps.{steps-from, with-step}
 use Rattle.amount.specs.Parts.{legal}
 use Rattle.digraph.specs.declared.link.Link.{Link}
 use Rattle.sheet.specs.Calls.{priced, priced-at, listed, all-links, column-checks, link-checks}
@@ -90,3 +91,20 @@ listed-at-place k [] i h e = absurd (lit-none i h)
     lit-none i h = omega arith
 listed-at-place k (x ∷ xs) zero h e = or-left _ _ (eq-eqb x k e)
 listed-at-place k (x ∷ xs) (suc i) h e = or-right (eqb x k) _ (listed-at-place k xs i (omega arith) e)
+
+-- the steps of a list, and the test that its numbers name links, one place on
+all-links-unrolled : (slots : Slots) (ks : List ℕ) (i : ℕ) → i < length ks → all-links slots (drop i ks) ≡ (isSome (linkAt slots (getD ks i 0)) && all-links slots (drop (i + 1) ks))
+all-links-unrolled slots ks i h = ap (all-links slots) (drop-more ks i 0 h)
+
+module _ (slots : Slots) (ks : List ℕ) (i : ℕ) (inv : all-links slots (drop i ks) ≡ all-links slots ks) where
+  pub all-links-one-on : i < length ks → isSome (linkAt slots (getD ks i 0)) ≡ true → all-links slots (drop (i + 1) ks) ≡ all-links slots ks
+  all-links-one-on h e = and-when-true _ _ _ e (sym inv ∙ all-links-unrolled slots ks i h)
+
+  pub not-all-links-from-place : i < length ks → isSome (linkAt slots (getD ks i 0)) ≡ false → all-links slots ks ≡ false
+  not-all-links-from-place h e = and-when-false _ _ _ e (sym inv ∙ all-links-unrolled slots ks i h)
+
+  pub all-links-at-end : length ks ≤ i → all-links slots ks ≡ true
+  all-links-at-end h = sym inv ∙ ap (all-links slots) (drop-all i ks h)
+
+pub steps-one-on : (slots : Slots) (masks ks : List ℕ) (i : ℕ) → i < length ks → steps-from slots masks (drop i ks) ≡ steps-from slots (with-step masks (linkAt slots (getD ks i 0))) (drop (i + 1) ks)
+steps-one-on slots masks ks i h = ap (steps-from slots masks) (drop-more ks i 0 h)

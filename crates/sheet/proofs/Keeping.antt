@@ -86,3 +86,14 @@ pub spans-without-link
 spans-without-link n slots tree k free spans t e =
     let out : listed k (take (n - 1) (t .numbers)) ≡ false = subst (λ (o : Option Tree). listed k (valueOr (mapped (λ t. take (n - 1) (t .numbers)) o) []) ≡ false) e free in
     ∥∥₁-map (spans t e) (spanning-after-set n slots _ k None (λ i h q. both-ways _ out (listed-at-place k _ i h q)))
+
+pub spans-with-tree
+  : (n : ℕ) (slots : Slots) (tree : Tree) (list : List ℕ)
+  → length list ≡ n - 1
+  → take (length list) (tree .numbers) ≡ list
+  → SpanningTree n slots list
+  → Spans n slots (Some tree)
+spans-with-tree n slots tree list count is t other e =
+    let same : tree ≡ other = cc in
+    let list-of : take (n - 1) (tree .numbers) ≡ list = ap (λ (k : ℕ). take k (tree .numbers)) (sym count) ∙ is in
+    ∣ subst (λ (x : Tree). SpanningTree n slots (take (n - 1) (x .numbers))) same (subst (SpanningTree n slots) (sym list-of) t) ∣₁

@@ -6,9 +6,12 @@ use crate::tree::Tree;
 
 pub mod adding;
 pub mod column;
+pub mod installing;
+pub mod numbers;
 pub mod opening;
 pub mod pricing;
 pub mod questions;
+pub mod spanning;
 pub mod tree;
 pub mod withdrawing;
 
