@@ -32,7 +32,10 @@ pub impl Amount for CentsMinutes as CentsMinutesAmount {
     }
 
     fn nothing() -> CentsMinutes {
-        CentsMinutes { cents: 0, minutes: 0 }
+        CentsMinutes {
+            cents: 0,
+            minutes: 0,
+        }
     }
 
     fn plus(self, other: CentsMinutes) -> CentsMinutes {

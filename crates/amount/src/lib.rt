@@ -2,5 +2,6 @@
 pub mod cents;
 pub mod cents_minutes;
 pub mod kind;
+pub mod laws;
 pub mod limit;
 pub mod word;

@@ -8,5 +8,5 @@ pub fn holds(set: u64, station: u8) -> bool
     requires { ⌜ station < 64 ⌝ }
     ensures { λ r. ⌜ r ≡ has set station ⌝ }
 {
-    (set >> station) & 1 == 1
+    (set >> station) % 2 == 1
 }
