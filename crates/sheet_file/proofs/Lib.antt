@@ -1,0 +1,2 @@
+pub mod OneOn
+pub mod Loaded
