@@ -3,3 +3,4 @@ pub mod Links
 pub mod Paths
 pub mod Search
 pub mod Trees
+pub mod Entering
