@@ -2,3 +2,4 @@ pub mod OneEach
 pub mod Pigeons
 pub mod Searching
 pub mod Walks
+pub mod Stepping

@@ -4,3 +4,4 @@ pub mod Paths
 pub mod Search
 pub mod Trees
 pub mod Entering
+pub mod Steps

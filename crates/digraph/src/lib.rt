@@ -2,4 +2,5 @@
 pub mod counting;
 pub mod link;
 pub mod search;
+pub mod steps;
 pub mod table;

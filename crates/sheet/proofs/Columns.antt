@@ -17,7 +17,6 @@ use Rattle.std.proofs.shelf.Tests.{both-ways, cases-lt, eq-eqb, or-left, or-rig
 use Rattle.std.proofs.shelf.Ways.{tells}
 use Rattle.refusal.specs.Checks.{first}
 use Rattle.sheet.specs.Held.{Held}
-use Rattle.sheet.specs.Steps.{steps-from, with-step}
 use Rattle.amount.specs.Parts.{legal}
 use Rattle.digraph.specs.declared.link.Link.{Link}
 use Rattle.sheet.specs.Calls.{priced, priced-at, listed, all-links, column-checks, link-checks}
@@ -92,7 +91,7 @@ listed-at-place k [] i h e = absurd (lit-none i h)
 listed-at-place k (x ∷ xs) zero h e = or-left _ _ (eq-eqb x k e)
 listed-at-place k (x ∷ xs) (suc i) h e = or-right (eqb x k) _ (listed-at-place k xs i (omega arith) e)
 
--- the steps of a list, and the test that its numbers name links, one place on
+-- the test that every number of a list names a link, one place on
 all-links-unrolled : (slots : Slots) (ks : List ℕ) (i : ℕ) → i < length ks → all-links slots (drop i ks) ≡ (isSome (linkAt slots (getD ks i 0)) && all-links slots (drop (i + 1) ks))
 all-links-unrolled slots ks i h = ap (all-links slots) (drop-more ks i 0 h)
 
@@ -105,6 +104,3 @@ module _ (slots : Slots) (ks : List ℕ) (i : ℕ) (inv : all-links slots (drop 
 
   pub all-links-at-end : length ks ≤ i → all-links slots ks ≡ true
   all-links-at-end h = sym inv ∙ ap (all-links slots) (drop-all i ks h)
-
-pub steps-one-on : (slots : Slots) (masks ks : List ℕ) (i : ℕ) → i < length ks → steps-from slots masks (drop i ks) ≡ steps-from slots (with-step masks (linkAt slots (getD ks i 0))) (drop (i + 1) ks)
-steps-one-on slots masks ks i h = ap (steps-from slots masks) (drop-more ks i 0 h)

@@ -1,4 +1,3 @@
 pub mod Keeps
 pub mod Held
 pub mod Calls
-pub mod Steps

@@ -1,17 +1,18 @@
 //! Whether a list of links is a spanning tree: are all stations reached from the base along it?
-ghost use Prim.Native.Nat.{_+_, _<_, _≤_};
+ghost use Prim.Native.Nat.{_+_, _≤_};
 ghost use lib.ListN.{length, take, replicate};
 ghost use mathlib.Core.Bool.{true};
+ghost use mathlib.Core.List.{map};
 ghost use mathlib.Core.Path.{_≡_};
 ghost use Rattle.std.specs.Orderings.{Decides};
-ghost use Rattle.std.specs.declared.option.Option.the-variants.{Some};
+ghost use Rattle.digraph.specs.Links.{linkAt};
+ghost use Rattle.digraph.specs.Steps.{steps-from};
 ghost use Rattle.digraph.specs.Trees.{SpanningTree};
 ghost use Rattle.sheet.specs.Held.{held};
 ghost use Rattle.sheet.specs.Calls.{all-links};
-ghost use Rattle.sheet.specs.Steps.{steps-from, with-step};
-use digraph::link::Link;
 use digraph::search::STATIONS;
 use digraph::search::reached;
+use digraph::steps::add_step;
 use crate::Sheet;
 use crate::numbers::Numbers;
 use crate::tree::TREE_LINKS;
@@ -41,23 +42,13 @@ pub fn spans<L: Numbers>(sheet: &Sheet, list: &L) -> bool
 
 /// For each station the mask of those that one link of the list leads to.
 fn steps_along<L: Numbers>(sheet: &Sheet, list: &L) -> [u64; STATIONS]
-    ensures { λ r. ⌜ r ≡ steps-from (held (now (sheet .entry)) .links) (replicate 40 0) (numbers (now (list .entry))) ⌝ }
+    ensures { λ r. ⌜ r ≡ steps-from (replicate 40 0) (map (linkAt (held (now (sheet .entry)) .links)) (numbers (now (list .entry)))) ⌝ }
 {
     let mut next = [0; STATIONS];
     for i in 0..list.count() {
         add_step(&mut next, sheet.link(list.at(i)));
     }
     next
-}
-
-/// Adds the step from a link's tail to its head, if there is a link.
-fn add_step(next: &mut [u64; STATIONS], link: Option<Link>)
-    requires { ⌜ ((l : Link) → link ≡ Some l → (l .tail < 40) × (l .head < 40)) ⌝ }
-    ensures { λ _. ⌜ now (next .exit) ≡ with-step (now (next .entry)) link ⌝ }
-{
-    if let Some(Link { tail, head }) = link {
-        next[tail as usize] |= 1 << head;
-    }
 }
 
 /// The list as a tree to keep.

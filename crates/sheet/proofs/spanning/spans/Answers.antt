@@ -1,5 +1,6 @@
 use lib.Dec.{eqb}
 use lib.ListN.{getD, replicate}
+use mathlib.Core.List.{map}
 use mathlib.Core.Path.{_≡_, sym, _∙_, ap, subst}
 use native.Mathlib.Omega.{arith}
 use Prim.Native.Nat.{_^_, _-_, _*_, _%_, _<_}
@@ -9,7 +10,9 @@ use Rattle.stations.specs.Sets.{has}
 use Rattle.digraph.specs.Paths.{Path}
 use Rattle.digraph.specs.Search.{Next}
 use Rattle.digraph.specs.Trees.{SpanningTree}
-use Rattle.sheet.proofs.Stepping.{steps-are-low, all-seen-decides-tree}
+use Rattle.digraph.specs.Links.{linkAt}
+use Rattle.digraph.proofs.Stepping.{steps-are-low}
+use Rattle.sheet.proofs.Stepping.{links-low, all-seen-decides-tree}
 use Rattle.sheet.proofs.spanning.spans.Needs as need
 
 pub reached-requires : need.reached-requires
@@ -17,7 +20,7 @@ reached-requires g c κs =
     let s = c .args .sheet .now in
     record
       { in-range = omega arith;
-        bounded = λ u h. subst (λ x. getD x u 0 < 2 ^ 40) (sym (c .steps-along-next .ensures)) (steps-are-low (s .stations) (s .links .slots) (s .proper) (s .few) (g .L·Numbers .numbers (c .args .list .now)) u)
+        bounded = λ u h. subst (λ x. getD x u 0 < 2 ^ 40) (sym (c .steps-along-next .ensures)) (steps-are-low (map (linkAt (s .links .slots)) (g .L·Numbers .numbers (c .args .list .now))) (links-low (s .stations) (s .links .slots) (s .proper) (s .few) (g .L·Numbers .numbers (c .args .list .now))) u)
       }
 
 pub returns : need.returns
