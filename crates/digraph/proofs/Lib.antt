@@ -3,3 +3,4 @@ pub mod Pigeons
 pub mod Searching
 pub mod Walks
 pub mod Stepping
+pub mod Widening

@@ -6,7 +6,7 @@ ghost use mathlib.Core.Path.{_≡_};
 ghost use Rattle.std.specs.Orderings.{Decides};
 ghost use Rattle.stations.specs.Sets.{In, Part, has};
 ghost use Rattle.digraph.specs.Paths.{Path};
-ghost use Rattle.digraph.specs.Search.{Closed, Next, newly};
+ghost use Rattle.digraph.specs.Search.{Closed, Next, newly, reach-set};
 
 /// How many stations there can be.
 pub const STATIONS: usize = 40;
@@ -15,6 +15,7 @@ pub const STATIONS: usize = 40;
 pub fn reached(next: &[u64; STATIONS], start: u8) -> u64
     requires in_range { ⌜ start < 40 ⌝ }
     requires bounded { ⌜ ((u : ℕ) → u < 40 → getD (now next) u 0 < 2 ^ 40) ⌝ }
+    ensures value { λ r. ⌜ r ≡ reach-set (now (next .entry)) start ⌝ }
     ensures small { λ r. ⌜ r < 2 ^ 40 ⌝ }
     ensures has_start { λ r. ⌜ In r start ⌝ }
     ensures closed { λ r. ⌜ Closed (now (next .entry)) r ⌝ }

@@ -1,3 +1,4 @@
 pub mod Keeping
 pub mod Columns
 pub mod Stepping
+pub mod Sounds

@@ -1,3 +1,4 @@
 pub mod Keeps
 pub mod Held
 pub mod Calls
+pub mod Sound

@@ -1,6 +1,9 @@
 -- Each need is a fact on numbers that Searching states: the first station, a turn, and the end.
 use Prim.Native.Nat.{ℕ}
-use mathlib.Core.Path.{subst}
+use borrow.Author.Needs.{needs}
+use lib.ListN.{length}
+use mathlib.Core.Path.{_≡_, subst}
+use Rattle.digraph.proofs.Widening.{least-closed-is-reach-set, low-everywhere}
 use Rattle.digraph.proofs.Searching.{Searched, begun, station-below, lowest-turn, lowest-turn-falls, ended-closed, ended-least, ended-paths}
 use Rattle.digraph.proofs.search.reached.Needs as need
 
@@ -24,7 +27,9 @@ pub returns : need.returns
 returns c =
     let was = subst (λ (x : ℕ). Searched (c .args .next .now) (c .args .start) (c .loop-progress .progress .seen) x)
     (c .loop-progress-test .left) (c .loop-progress .inv) in
+    let sized : length (c .args .next .now) ≡ 40 = search needs in
     record {
+      value = least-closed-is-reach-set (c .args .next .now) (low-everywhere (c .args .next .now) sized (c .pre .bounded)) (c .args .start) (c .loop-progress .progress .seen) (c .pre .in-range) (was .started) (ended-closed _ _ _ was) (ended-least _ _ _ was);
       small = was .small;
       has-start = was .started;
       closed = ended-closed _ _ _ was;
