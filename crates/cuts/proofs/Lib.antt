@@ -1,0 +1,15 @@
+pub mod EntryCounts
+pub mod Extremes
+pub mod FeedExtremes
+pub mod FeedFamily
+pub mod Growing
+pub mod Injections
+pub mod Parents
+pub mod Passing
+pub mod Reaching
+pub mod RouteExtremes
+pub mod SearchResults
+pub mod Searches
+pub mod TreeEntries
+pub mod TreeExtremes
+pub mod TreeFamily

@@ -1,0 +1,5 @@
+pub mod Entries
+pub mod Families
+pub mod Climbing
+pub mod Reaching
+pub mod Theorems

@@ -1,0 +1,15 @@
+pub mod Amounts
+pub mod Sums
+pub mod Entering
+pub mod WeakDuality
+pub mod Searches
+pub mod Nests
+pub mod Packing
+pub mod Taking
+pub mod Covers
+pub mod Levels
+pub mod Ranges
+pub mod Steps
+pub mod Wide
+pub mod Listed
+pub mod Singles

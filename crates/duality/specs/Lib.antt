@@ -1,0 +1,5 @@
+pub mod Entries
+pub mod Families
+pub mod Costs
+pub mod Stages
+pub mod Theorems
