@@ -25,8 +25,10 @@ module _ (masks : List ℕ) (l : Link) (sized : length masks ≡ 40) (low : l .t
     where
       other : (u ≡ l .tail → ⊥) → In (getD masks u 0) v ⊎ ((l .tail ≡ u) × (l .head ≡ v))
       other ne = inl (subst (λ (m : ℕ). In m v) (getD-set-other masks (l .tail) u (bitOr (getD masks (l .tail) 0) (2 ^ (l .head))) 0 ne) h)
+
       split : (m : ℕ) → In (bitOr m (2 ^ (l .head))) v → In m v ⊎ (l .head ≡ v)
       split m i = ⊎-elim inl (λ out. inr (In-pow (l .head) v (omega (arith, digit-or m (2 ^ (l .head)) v)))) (in-or-out m v)
+
       same : u ≡ l .tail → In (getD masks u 0) v ⊎ ((l .tail ≡ u) × (l .head ≡ v))
       same e =
           let at : getD (with-step masks (Some l)) u 0 ≡ bitOr (getD masks (l .tail) 0) (2 ^ (l .head)) = ap (λ (x : ℕ). getD (with-step masks (Some l)) x 0) e ∙ getD-set-same masks (l .tail) (bitOr (getD masks (l .tail) 0) (2 ^ (l .head))) 0 (omega arith) in
@@ -38,6 +40,7 @@ module _ (masks : List ℕ) (l : Link) (sized : length masks ≡ 40) (low : l .t
     where
       other : (u ≡ l .tail → ⊥) → In (getD (with-step masks (Some l)) u 0) v
       other ne = subst (λ (m : ℕ). In m v) (sym (getD-set-other masks (l .tail) u (bitOr (getD masks (l .tail) 0) (2 ^ (l .head))) 0 ne)) h
+
       same : u ≡ l .tail → In (getD (with-step masks (Some l)) u 0) v
       same e =
           let at : getD (with-step masks (Some l)) u 0 ≡ bitOr (getD masks (l .tail) 0) (2 ^ (l .head)) = ap (λ (x : ℕ). getD (with-step masks (Some l)) x 0) e ∙ getD-set-same masks (l .tail) (bitOr (getD masks (l .tail) 0) (2 ^ (l .head))) 0 (omega arith) in
@@ -94,8 +97,10 @@ next-step-low (Some l) masks ends low u = ⊎-elim same other (cases-eq u (l .ta
   where
     other : (u ≡ l .tail → ⊥) → getD (set masks (l .tail) (bitOr (getD masks (l .tail) 0) (2 ^ (l .head)))) u 0 < 2 ^ 40
     other ne = subst (λ (x : ℕ). x < 2 ^ 40) (sym (getD-set-other masks (l .tail) u (bitOr (getD masks (l .tail) 0) (2 ^ (l .head))) 0 ne)) (low u)
+
     new : bitOr (getD masks (l .tail) 0) (2 ^ (l .head)) < 2 ^ 40
     new = or-lt 40 (getD masks (l .tail) 0) (2 ^ (l .head)) (low (l .tail)) (pow-below (l .head) 40 (ends l refl .1))
+
     same : u ≡ l .tail → getD (set masks (l .tail) (bitOr (getD masks (l .tail) 0) (2 ^ (l .head)))) u 0 < 2 ^ 40
     same q =
         ⊎-elim
@@ -131,7 +136,7 @@ steps-in [] masks u v low sized h = ⊎-elim (λ i. i) (λ (i, j, e). absurd (be
 steps-in (o ∷ os) masks u v low sized h =
     steps-in os (with-step masks o) u v (low-rest o os low) (next-step-sized o masks sized)
     (⊎-elim (λ i. inl (next-step-in o masks u v (low 0 (omega arith)) sized (inl i)))
-      (λ a. ⊎-elim (λ e. inl (next-step-in o masks u v (low 0 (omega arith)) sized (inr e))) inr (somewhere-cons o os u v a)) h)
+    (λ a. ⊎-elim (λ e. inl (next-step-in o masks u v (low 0 (omega arith)) sized (inr e))) inr (somewhere-cons o os u v a)) h)
 
 steps-low : (os : List (Option Link)) (masks : List ℕ) → AllLow os → ((u : ℕ) → getD masks u 0 < 2 ^ 40) → (u : ℕ) → getD (steps-from masks os) u 0 < 2 ^ 40
 steps-low [] masks ends low u = low u

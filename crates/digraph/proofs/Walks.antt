@@ -15,13 +15,13 @@ path-by-other-steps f stay = stay
 path-by-other-steps f (step {u = u} {v = v} p e) = step (path-by-other-steps f p) (f u v e)
 
 pub spanning-tree-of-same-links
-  : (n : ℕ) (slots other : Slots) (list : List ℕ)
-  → ((i : ℕ) → i < length list → linkAt slots (getD list i 0) ≡ linkAt other (getD list i 0))
-  → SpanningTree n slots list
-  → SpanningTree n other list
+    : (n : ℕ) (slots other : Slots) (list : List ℕ)
+    → ((i : ℕ) → i < length list → linkAt slots (getD list i 0) ≡ linkAt other (getD list i 0))
+    → SpanningTree n slots list
+    → SpanningTree n other list
 spanning-tree-of-same-links n slots other list same t =
-    record
-      { one-fewer = t .one-fewer;
-        of-links = λ i h. ap isSome (sym (same i h)) ∙ t .of-links i h;
-        reaches = λ v h. path-by-other-steps (λ a b (i, j, e). (i, j, sym (same i j) ∙ e)) (t .reaches v h)
-      }
+    record {
+      one-fewer = t .one-fewer;
+      of-links = λ i h. ap isSome (sym (same i h)) ∙ t .of-links i h;
+      reaches = λ v h. path-by-other-steps (λ a b (i, j, e). (i, j, sym (same i j) ∙ e)) (t .reaches v h);
+    }

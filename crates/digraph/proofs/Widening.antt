@@ -34,6 +34,7 @@ in-spread (m ∷ ms) u set v h = ⊎-elim (here (has set u) refl) (λ i. there (
     here : (b : Bool) → has set u ≡ b → In (cond b m 0) v → (i : ℕ) × In set (u + i) × In (getD (m ∷ ms) i 0) v
     here true e i = (0, subst (In set) (let z : u ≡ u + 0 = omega arith in z) (has→In set u e), i)
     here false e i = absurd (omega (arith, digit-of-0 v))
+
     there : (i : ℕ) × In set (suc u + i) × In (getD ms i 0) v → (i : ℕ) × In set (u + i) × In (getD (m ∷ ms) i 0) v
     there (j, p, q) = (suc j, subst (In set) (let z : suc u + j ≡ u + suc j = omega arith in z) p, q)
 
@@ -99,6 +100,7 @@ module _ (masks : List ℕ) where
       where
         stays : bitOr set (spread masks 0 set) ≡ set → Closed masks (widened masks (bitOr set (spread masks 0 set)) times)
         stays same = subst (Closed masks) (sym (ap (λ m. widened masks m times) same ∙ same-widened times set same)) (closed-if-same set same)
+
         more : (bitOr set (spread masks 0 set) ≡ set → ⊥) → suc (ones set) ≤ ones (bitOr set (spread masks 0 set))
         more differ =
             let mono = ones-mono set (bitOr set (spread masks 0 set)) (in-or-left set (spread masks 0 set)) in
@@ -110,7 +112,7 @@ module _ (masks : List ℕ) where
 
     -- the least closed set around a start is `reach-set`
     pub least-closed-is-reach-set
-      : (start z : ℕ) → start < 40 → In z start → Closed masks z → ((x : ℕ) → In x start → Closed masks x → Part z x) → z ≡ reach-set masks start
+        : (start z : ℕ) → start < 40 → In z start → Closed masks z → ((x : ℕ) → In x start → Closed masks x → Part z x) → z ≡ reach-set masks start
     least-closed-is-reach-set start z small held closed least =
         Part-antisym z (reach-set masks start)
         (least (reach-set masks start) (reach-set-has-start start) (reach-set-closed start small))

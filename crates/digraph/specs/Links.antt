@@ -1,5 +1,5 @@
 -- Links by their numbers: a table has a place for each number, and a link at some of them.
-use Prim.Native.Nat.{ℕ}
+use Prim.Native.Nat.{ℕ, _<_}
 use lib.ListN.{getD}
 use mathlib.Core.List.{List}
 use mathlib.Core.Path.{_≡_}
@@ -18,3 +18,8 @@ linkAt slots k = getD slots k None
 -- link k leads from station u to station v
 abbrev pub Leads : Slots → ℕ → ℕ → ℕ → Type 0
 Leads slots k u v = linkAt slots k ≡ Some (record { tail = u; head = v })
+
+-- every link leads from one of n stations to another
+abbrev pub Proper : ℕ → Slots → Type 0
+Proper n slots =
+    (k : ℕ) (l : Link) → linkAt slots k ≡ Some l → (l .tail < n) × (l .head < n) × (l .tail ≡ l .head → ⊥)

@@ -20,7 +20,9 @@ impl LinkTable {
     pub fn empty() -> LinkTable
         ensures { λ r. ⌜ r .slots ≡ replicate 200 None ⌝ }
     {
-        LinkTable { slots: [None; LINKS] }
+        LinkTable {
+            slots: [None; LINKS],
+        }
     }
 
     /// The link of number `k`.

@@ -25,6 +25,7 @@ use Rattle.family.specs.Choices.{FeedMember, for-size, others, fewer, better, 
 use Rattle.family.specs.Laws.{Unentered, Smallest, Largest}
 use Rattle.family.specs.Reach.{marked-steps, reaching, reached-from}
 use Rattle.family.specs.declared.reach.Direction.the-variants.{Back}
+use Rattle.family.proofs.Marking.{some-is-not-none}
 use Rattle.family.proofs.Outside.{others-inside, others-apart, entered-if-not-unentered, not-reached-unentered, not-reached-greatest}
 use Rattle.family.proofs.Reaching.{reaching-has-it, reaching-unentered, reaching-least, reaching-inside, reached-has-it, reached-inside}
 
@@ -79,45 +80,45 @@ module _ (steps : List ℕ) where
   unfolding SoFar
   passed-over v None base so = up-to v so base
   passed-over v (Some set) base so =
-      record
-        { around = so .around;
-          station = omega (arith, so .station);
-          is = so .is;
-          without-base = so .without-base;
-          fewest = up-to v (so .fewest) (λ lacks. absurd (both-ways (has (reach-set steps v) 0) lacks base))
-        }
+      record {
+        around = so .around;
+        station = omega (arith, so .station);
+        is = so .is;
+        without-base = so .without-base;
+        fewest = up-to v (so .fewest) (λ lacks. absurd (both-ways (has (reach-set steps v) 0) lacks base));
+      }
 
   by-count : (v set : ℕ) → has (reach-set steps v) 0 ≡ false → Best steps v set → (b : Bool) → ltb (ones (reach-set steps v)) (ones set) ≡ b → SoFar steps (v + 1) (cond b (Some (reach-set steps v)) (Some set))
   unfolding SoFar
   by-count v set lacks so true e =
       let less = ltb-true (ones (reach-set steps v)) (ones set) e in
-      record
-        { around = v;
-          station = omega arith;
-          is = refl;
-          without-base = lacks;
-          fewest = up-to v (λ u h other. omega (arith, so .fewest u h other)) (λ _. omega arith)
-        }
+      record {
+        around = v;
+        station = omega arith;
+        is = refl;
+        without-base = lacks;
+        fewest = up-to v (λ u h other. omega (arith, so .fewest u h other)) (λ _. omega arith);
+      }
   by-count v set lacks so false e =
       let no-less = ltb-false (ones (reach-set steps v)) (ones set) e in
-      record
-        { around = so .around;
-          station = omega (arith, so .station);
-          is = so .is;
-          without-base = so .without-base;
-          fewest = up-to v (so .fewest) (λ _. no-less)
-        }
+      record {
+        around = so .around;
+        station = omega (arith, so .station);
+        is = so .is;
+        without-base = so .without-base;
+        fewest = up-to v (so .fewest) (λ _. no-less);
+      }
 
   taken-up : (v : ℕ) (best : Option ℕ) → has (reach-set steps v) 0 ≡ false → SoFar steps v best → SoFar steps (v + 1) (fewer best (reach-set steps v))
   unfolding SoFar
   taken-up v None lacks so =
-      record
-        { around = v;
-          station = omega arith;
-          is = refl;
-          without-base = lacks;
-          fewest = up-to v (λ u h other. absurd (both-ways (has (reach-set steps u) 0) other (so u h))) (λ _. omega arith)
-        }
+      record {
+        around = v;
+        station = omega arith;
+        is = refl;
+        without-base = lacks;
+        fewest = up-to v (λ u h other. absurd (both-ways (has (reach-set steps u) 0) other (so u h))) (λ _. omega arith);
+      }
   taken-up v (Some set) lacks so = by-count v set lacks so (ltb (ones (reach-set steps v)) (ones set)) refl
 
   fewest-so-far : (k v : ℕ) (best : Option ℕ) → SoFar steps v best → SoFar steps (v + k) (fewest-from steps best v k)
@@ -142,9 +143,6 @@ for-right-size n h answer e = cond-true (eqb (h .stations) n) answer None (eq-eq
 
 pub none-for-other-size : (n : ℕ) (h : Held) (answer : Option ℕ) → (h .stations ≡ n → ⊥) → for-size n h answer ≡ None
 none-for-other-size n h answer ne = cond-false (eqb (h .stations) n) answer None (ne-eqb (h .stations) n ne)
-
-some-is-not-none : {A : Type 0} {x : A} → None ≡ Some x → ⊥
-some-is-not-none p = let z : _≡_ {A = ℕ} 0 1 = cc in omega arith
 
 module _ (n : ℕ) (h : Held) (marks : List ℕ) (sound : Sound h) (right : h .stations ≡ n) where
   station-of : (v : ℕ) → v < n → v < h .stations
@@ -171,30 +169,30 @@ module _ (n : ℕ) (h : Held) (marks : List ℕ) (sound : Sound h) (right : h .s
       from-best best =
           let v = best .around in
           let low : v < h .stations = station-of v (best .station) in
-          record
-            { member =
-                record
-                  { inside = subst (λ m. m < 2 ^ n) (sym (best .is)) (subst (λ m. reaching (h .links) marks v < 2 ^ m) right (reaching-inside (h .stations) (h .links) (sound .proper) (sound .few) (sound .sized) marks v low));
-                    some = holding-is-some set v (subst (λ m. In m v) (sym (best .is)) (reaching-has-it (h .stations) (h .links) (sound .proper) (sound .few) (sound .sized) marks v low));
-                    without-base = best .without-base
-                  };
-              unentered = subst (Unentered (h .links) marks) (sym (best .is)) (reaching-unentered (h .stations) (h .links) (sound .proper) (sound .few) (sound .sized) marks v low);
-              no-part = λ other member out part.
+          record {
+            member =
+                record {
+                  inside = subst (λ m. m < 2 ^ n) (sym (best .is)) (subst (λ m. reaching (h .links) marks v < 2 ^ m) right (reaching-inside (h .stations) (h .links) (sound .proper) (sound .few) (sound .sized) marks v low));
+                  some = holding-is-some set v (subst (λ m. In m v) (sym (best .is)) (reaching-has-it (h .stations) (h .links) (sound .proper) (sound .few) (sound .sized) marks v low));
+                  without-base = best .without-base;
+                };
+            unentered = subst (Unentered (h .links) marks) (sym (best .is)) (reaching-unentered (h .stations) (h .links) (sound .proper) (sound .few) (sound .sized) marks v low);
+            no-part = λ other member out part.
                 let (u, held) = some-station other member in
                 let inside = around-inside other u (member .inside) held out in
                 let count = best .fewest u (In-below n other u (member .inside) held) (around-lacks-base other u member held out) in
                 let same : other ≡ set = ones-full other set part (omega (arith, count, ones-mono (reaching (h .links) marks u) other inside)) in
-                same
-            }
+                same;
+          }
 
   pub feed-smallest-none : (set : ℕ) → feed-smallest n h marks ≡ None → FeedMember n set → Entered (h .links) marks set
   unfolding SoFar
   feed-smallest-none set e member =
       entered-if-not-unentered (h .links) marks set
       (λ out.
-        let (v, held) = some-station set member in
-        let all = fewest-is (marked-steps Back (h .links) marks) n None (sym (for-right-size n h (fewest-from (marked-steps Back (h .links) marks) None 0 n) right) ∙ e) in
-        both-ways (has (reaching (h .links) marks v) 0) (around-lacks-base set v member held out) (all v (In-below n set v (member .inside) held)))
+      let (v, held) = some-station set member in
+      let all = fewest-is (marked-steps Back (h .links) marks) n None (sym (for-right-size n h (fewest-from (marked-steps Back (h .links) marks) None 0 n) right) ∙ e) in
+      both-ways (has (reaching (h .links) marks v) 0) (around-lacks-base set v member held out) (all v (In-below n set v (member .inside) held)))
 
   base-low : 0 < h .stations
   base-low = omega (arith, sound .some)
@@ -213,7 +211,7 @@ module _ (n : ℕ) (h : Held) (marks : List ℕ) (sound : Sound h) (right : h .s
   lacks-base : has (others n (reached-from (h .links) marks 0)) 0 ≡ false
   lacks-base =
       ⊎-elim (λ base. absurd (both-ways (has (reached-from (h .links) marks 0) 0) (others-apart n (reached-from (h .links) marks 0) reached-small 0 (has→In (others n (reached-from (h .links) marks 0)) 0 base))
-          (In→has (reached-from (h .links) marks 0) 0 (reached-has-it (h .stations) (h .links) (sound .proper) (sound .few) (sound .sized) marks 0 base-low))))
+      (In→has (reached-from (h .links) marks 0) 0 (reached-has-it (h .stations) (h .links) (sound .proper) (sound .few) (sound .sized) marks 0 base-low))))
       (λ lacks. lacks) (cases-bool (has (others n (reached-from (h .links) marks 0)) 0))
 
   -- the answer, by whether anything is left
@@ -228,11 +226,11 @@ module _ (n : ℕ) (h : Held) (marks : List ℕ) (sound : Sound h) (right : h .s
       let answer = cond (eqb (others n (reached-from (h .links) marks 0)) 0) None (Some (others n (reached-from (h .links) marks 0))) in
       let found = by-rest (eqb (others n (reached-from (h .links) marks 0)) 0) refl set (sym (for-right-size n h answer right) ∙ e) in
       subst (Largest (FeedMember n) (h .links) marks) (found .0)
-      (record
-        { member = record { inside = others-inside n (reached-from (h .links) marks 0) reached-small; some = λ z. found .1 (sym (found .0) ∙ z); without-base = lacks-base };
-          unentered = subst (Unentered (h .links) marks) rest-is (not-reached-unentered (h .stations) (h .links) (sound .proper) (sound .few) (sound .sized) marks 0 base-low);
-          no-whole = λ other member out part. Part-antisym other (others n (reached-from (h .links) marks 0)) (holds-all other member out) part
-        })
+      (record {
+        member = record { inside = others-inside n (reached-from (h .links) marks 0) reached-small; some = λ z. found .1 (sym (found .0) ∙ z); without-base = lacks-base };
+        unentered = subst (Unentered (h .links) marks) rest-is (not-reached-unentered (h .stations) (h .links) (sound .proper) (sound .few) (sound .sized) marks 0 base-low);
+        no-whole = λ other member out part. Part-antisym other (others n (reached-from (h .links) marks 0)) (holds-all other member out) part;
+      })
 
   none-left : (b : Bool) → eqb (others n (reached-from (h .links) marks 0)) 0 ≡ b → cond b None (Some (others n (reached-from (h .links) marks 0))) ≡ None → others n (reached-from (h .links) marks 0) ≡ 0
   none-left true e p = eqb-true (others n (reached-from (h .links) marks 0)) 0 e

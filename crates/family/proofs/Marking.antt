@@ -22,13 +22,13 @@ use Rattle.digraph.specs.Search.{Next, Closed}
 use Rattle.digraph.specs.Steps.{Low}
 use Rattle.digraph.specs.declared.link.Link.{Link}
 use Rattle.digraph.proofs.Stepping.{AllLow, From, Somewhere, next-somewhere, somewhere-next, steps-are-low}
-use Rattle.sheet.specs.Keeps.{Proper}
+use Rattle.digraph.specs.Links.{Proper}
 use Rattle.family.specs.Laws.{Unentered}
 use Rattle.family.specs.Reach.{MarkedStep, turned, marked-link, marked-steps}
 use Rattle.family.specs.declared.reach.Direction.{Direction}
 use Rattle.family.specs.declared.reach.Direction.the-variants.{Forth, Back}
 
-some-is-not-none : {A : Type 0} {x : A} → None ≡ Some x → ⊥
+pub some-is-not-none : {A : Type 0} {x : A} → None ≡ Some x → ⊥
 some-is-not-none p = let z : _≡_ {A = ℕ} 0 1 = cc in omega arith
 
 -- a step one way is that link gone along that way
@@ -82,10 +82,10 @@ module _ (n : ℕ) (slots : Slots) (proper : Proper n slots) (few : n ≤ 40) (s
   unfolding marked-steps
   way-is-next-at way k u v m b q same =
       let small : k < 200 = omega (arith, link-is-placed slots k m q, sized) in
-      somewhere-next (map (marked-link way slots marks) (counting 0 200)) (marked-links-low way) u v
-      ( k,
+      somewhere-next (map (marked-link way slots marks) (counting 0 200)) (marked-links-low way) u v (
+        k,
         omega (arith, length-map-counting (marked-link way slots marks) 0 200),
-        marked-at way k small ∙ ap (λ x. cond x (mapped (turned way) (linkAt slots k)) None) b ∙ ap (mapped (turned way)) q ∙ ap Some same
+        marked-at way k small ∙ ap (λ x. cond x (mapped (turned way) (linkAt slots k)) None) b ∙ ap (mapped (turned way)) q ∙ ap Some same,
       )
 
   pub way-is-next : (way : Direction) (u v : ℕ) → Way way slots marks u v → Next (marked-steps way slots marks) u v

@@ -15,7 +15,7 @@ use Rattle.stations.specs.Sets.{In, Part, has, digit}
 use Rattle.stations.proofs.Digits.{has→In, In→has, lacks→out, out→lacks, digit-not, digit-le-1, In-below, digit-above}
 use Rattle.digraph.specs.Entering.{marked, enters, entersAt, Entered}
 use Rattle.digraph.specs.Links.{Slots, linkAt}
-use Rattle.sheet.specs.Keeps.{Proper}
+use Rattle.digraph.specs.Links.{Proper}
 use Rattle.family.specs.Choices.{others}
 use Rattle.family.specs.Laws.{Unentered}
 use Rattle.family.specs.Reach.{reached-from}
@@ -66,5 +66,5 @@ module _ (n : ℕ) (slots : Slots) (proper : Proper n slots) (few : n ≤ 40) (s
   not-reached-greatest x small without out v h =
       others-all n (reached-from slots marks s) inside v (In-below n x v small h)
       (⊎-elim (λ reached. absurd (both-ways (has x v) (others-apart n x small v (reached-least n slots proper few sized marks s station (others n x) (others-all n x small s station without)
-          (outside-unentered-is-closed n slots proper few sized marks x (others n x) out (others-apart n x small) (others-all n x small)) v (has→In (reached-from slots marks s) v reached))) (In→has x v h)))
-        (λ lacks. lacks) (cases-bool (has (reached-from slots marks s) v)))
+      (outside-unentered-is-closed n slots proper few sized marks x (others n x) out (others-apart n x small) (others-all n x small)) v (has→In (reached-from slots marks s) v reached))) (In→has x v h)))
+      (λ lacks. lacks) (cases-bool (has (reached-from slots marks s) v)))

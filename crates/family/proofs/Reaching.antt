@@ -15,7 +15,7 @@ use Rattle.digraph.specs.Paths.{Path, stay, step}
 use Rattle.digraph.specs.Search.{Next, Closed, reach-set}
 use Rattle.digraph.proofs.Walks.{path-by-other-steps}
 use Rattle.digraph.proofs.Widening.{reach-set-has-start, reach-set-closed, reach-set-least}
-use Rattle.sheet.specs.Keeps.{Proper}
+use Rattle.digraph.specs.Links.{Proper}
 use Rattle.family.specs.Laws.{Unentered}
 use Rattle.family.specs.Reach.{MarkedStep, marked-steps, reaching, reached-from}
 use Rattle.family.specs.declared.reach.Direction.the-variants.{Forth, Back}
@@ -58,10 +58,10 @@ module _ (n : ℕ) (slots : Slots) (proper : Proper n slots) (few : n ≤ 40) (s
   reaching-inside = part-below n (reaching slots marks v) (reach-set-least (marked-steps Back slots marks) v (2 ^ n - 1) (digit-ones-below n v station) steps-stay)
 
   pub paths-to : (r u : ℕ) → Decides (has r u) (Path (Next (marked-steps Back slots marks)) v u) → Decides (has r u) (Path (MarkedStep slots marks) u v)
-  paths-to r u d =
-      ( λ e. path-back (next-is-way n slots proper few sized marks Back) (d .0 e),
-        λ p. d .1 (path-back (λ a b s. way-is-next n slots proper few sized marks Back b a s) p)
-      )
+  paths-to r u d = (
+    λ e. path-back (next-is-way n slots proper few sized marks Back) (d .0 e),
+    λ p. d .1 (path-back (λ a b s. way-is-next n slots proper few sized marks Back b a s) p),
+  )
 
 module _ (n : ℕ) (slots : Slots) (proper : Proper n slots) (few : n ≤ 40) (sized : length slots ≡ 200) (marks : List ℕ) (s : ℕ) (station : s < n) where
   low-forth : (u : ℕ) → getD (marked-steps Forth slots marks) u 0 < 2 ^ 40
@@ -83,7 +83,7 @@ module _ (n : ℕ) (slots : Slots) (proper : Proper n slots) (few : n ≤ 40) (s
   reached-inside = part-below n (reached-from slots marks s) (reach-set-least (marked-steps Forth slots marks) s (2 ^ n - 1) (digit-ones-below n s station) steps-stay-forth)
 
   pub paths-from : (r v : ℕ) → Decides (has r v) (Path (Next (marked-steps Forth slots marks)) s v) → Decides (has r v) (Path (MarkedStep slots marks) s v)
-  paths-from r v d =
-      ( λ e. path-by-other-steps (next-is-way n slots proper few sized marks Forth) (d .0 e),
-        λ p. d .1 (path-by-other-steps (way-is-next n slots proper few sized marks Forth) p)
-      )
+  paths-from r v d = (
+    λ e. path-by-other-steps (next-is-way n slots proper few sized marks Forth) (d .0 e),
+    λ p. d .1 (path-by-other-steps (way-is-next n slots proper few sized marks Forth) p),
+  )

@@ -20,6 +20,7 @@ use Rattle.family.specs.Choices.{RouteMember, others, route-smallest, route-la
 use Rattle.family.specs.Laws.{Unentered, Smallest, Largest}
 use Rattle.family.specs.Reach.{reaching, reached-from}
 use Rattle.family.proofs.Feeds.{has-and, has-or, and-lacks, or-lacks, holding-is-some, for-right-size}
+use Rattle.family.proofs.Marking.{some-is-not-none}
 use Rattle.family.proofs.Outside.{others-inside, others-apart, entered-if-not-unentered, not-reached-unentered, not-reached-greatest}
 use Rattle.family.proofs.Reaching.{reaching-has-it, reaching-unentered, reaching-least, reaching-inside, reached-has-it, reached-inside}
 
@@ -28,30 +29,27 @@ route-member-is-some n s t x p = holding-is-some x t (has→In x t (p .with-end)
 
 pub route-common : (n s t x y v : ℕ) → RouteMember n s t x → RouteMember n s t y → In x v → In y v → RouteMember n s t (bitAnd x y)
 route-common n s t x y v p q i j =
-    record
-      { inside = and-lt n x y (p .inside) (q .inside);
-        with-end = In→has (bitAnd x y) t (has-and x y t (has→In x t (p .with-end)) (has→In y t (q .with-end)));
-        without-start = and-lacks x y s (p .without-start)
-      }
+    record {
+      inside = and-lt n x y (p .inside) (q .inside);
+      with-end = In→has (bitAnd x y) t (has-and x y t (has→In x t (p .with-end)) (has→In y t (q .with-end)));
+      without-start = and-lacks x y s (p .without-start);
+    }
 
 pub route-union : (n s t x y v : ℕ) → RouteMember n s t x → RouteMember n s t y → In x v → In y v → RouteMember n s t (bitOr x y)
 route-union n s t x y v p q i j =
-    record
-      { inside = or-lt n x y (p .inside) (q .inside);
-        with-end = In→has (bitOr x y) t (has-or x y t (has→In x t (p .with-end)));
-        without-start = or-lacks x y s (p .without-start) (q .without-start)
-      }
+    record {
+      inside = or-lt n x y (p .inside) (q .inside);
+      with-end = In→has (bitOr x y) t (has-or x y t (has→In x t (p .with-end)));
+      without-start = or-lacks x y s (p .without-start) (q .without-start);
+    }
 
 pub end-is-route-member : (n s t : ℕ) → t < n → (s ≡ t → ⊥) → RouteMember n s t (2 ^ t)
 end-is-route-member n s t low apart =
-    record
-      { inside = pow-below t n low;
-        with-end = In→has (2 ^ t) t (digit-pow-same t);
-        without-start = out→lacks (2 ^ t) s (digit-pow-other t s (λ e. apart (sym e)))
-      }
-
-some-is-not-none : {A : Type 0} {x : A} → None ≡ Some x → ⊥
-some-is-not-none p = let z : _≡_ {A = ℕ} 0 1 = cc in omega arith
+    record {
+      inside = pow-below t n low;
+      with-end = In→has (2 ^ t) t (digit-pow-same t);
+      without-start = out→lacks (2 ^ t) s (digit-pow-other t s (λ e. apart (sym e)));
+    }
 
 -- an answer that is given if a test fails, or if it passes
 if-false : (b : Bool) (x set : ℕ) → cond b None (Some x) ≡ Some set → (b ≡ false) × (x ≡ set)
@@ -85,16 +83,16 @@ module _ (n s t : ℕ) (start-low : s < n) (end-low : t < n) (h : Held) (marks :
   route-smallest-found set e =
       let found = if-false (has (reaching (h .links) marks t) s) (reaching (h .links) marks t) set (sym (for-right-size n h (cond (has (reaching (h .links) marks t) s) None (Some (reaching (h .links) marks t))) right) ∙ e) in
       subst (Smallest (RouteMember n s t) (h .links) marks) (found .1)
-      (record
-        { member =
-            record
-              { inside = subst (λ m. reaching (h .links) marks t < 2 ^ m) right (reaching-inside (h .stations) (h .links) (sound .proper) (sound .few) (sound .sized) marks t end-in);
-                with-end = In→has (reaching (h .links) marks t) t (reaching-has-it (h .stations) (h .links) (sound .proper) (sound .few) (sound .sized) marks t end-in);
-                without-start = found .0
-              };
-          unentered = reaching-unentered (h .stations) (h .links) (sound .proper) (sound .few) (sound .sized) marks t end-in;
-          no-part = λ other member out part. Part-antisym other (reaching (h .links) marks t) part (around-end other member out)
-        })
+      (record {
+        member =
+            record {
+              inside = subst (λ m. reaching (h .links) marks t < 2 ^ m) right (reaching-inside (h .stations) (h .links) (sound .proper) (sound .few) (sound .sized) marks t end-in);
+              with-end = In→has (reaching (h .links) marks t) t (reaching-has-it (h .stations) (h .links) (sound .proper) (sound .few) (sound .sized) marks t end-in);
+              without-start = found .0;
+            };
+        unentered = reaching-unentered (h .stations) (h .links) (sound .proper) (sound .few) (sound .sized) marks t end-in;
+        no-part = λ other member out part. Part-antisym other (reaching (h .links) marks t) part (around-end other member out);
+      })
 
   pub route-smallest-none : (set : ℕ) → route-smallest n s t h marks ≡ None → RouteMember n s t set → Entered (h .links) marks set
   route-smallest-none set e member =
@@ -116,7 +114,7 @@ module _ (n s t : ℕ) (start-low : s < n) (end-low : t < n) (h : Held) (marks :
   lacks-start : has (others n (reached-from (h .links) marks s)) s ≡ false
   lacks-start =
       ⊎-elim (λ held. absurd (both-ways (has (reached-from (h .links) marks s) s) (others-apart n (reached-from (h .links) marks s) reached-small s (has→In (others n (reached-from (h .links) marks s)) s held))
-          (In→has (reached-from (h .links) marks s) s (reached-has-it (h .stations) (h .links) (sound .proper) (sound .few) (sound .sized) marks s start-in))))
+      (In→has (reached-from (h .links) marks s) s (reached-has-it (h .stations) (h .links) (sound .proper) (sound .few) (sound .sized) marks s start-in))))
       (λ lacks. lacks) (cases-bool (has (others n (reached-from (h .links) marks s)) s))
 
   pub route-largest-found : (set : ℕ) → route-largest n s t h marks ≡ Some set → Largest (RouteMember n s t) (h .links) marks set
@@ -124,11 +122,11 @@ module _ (n s t : ℕ) (start-low : s < n) (end-low : t < n) (h : Held) (marks :
       let rest = others n (reached-from (h .links) marks s) in
       let found = if-true (has rest t) rest set (sym (for-right-size n h (cond (has rest t) (Some rest) None) right) ∙ e) in
       subst (Largest (RouteMember n s t) (h .links) marks) (found .1)
-      (record
-        { member = record { inside = others-inside n (reached-from (h .links) marks s) reached-small; with-end = found .0; without-start = lacks-start };
-          unentered = subst (Unentered (h .links) marks) rest-is (not-reached-unentered (h .stations) (h .links) (sound .proper) (sound .few) (sound .sized) marks s start-in);
-          no-whole = λ other member out part. Part-antisym other rest (holds-all other member out) part
-        })
+      (record {
+        member = record { inside = others-inside n (reached-from (h .links) marks s) reached-small; with-end = found .0; without-start = lacks-start };
+        unentered = subst (Unentered (h .links) marks) rest-is (not-reached-unentered (h .stations) (h .links) (sound .proper) (sound .few) (sound .sized) marks s start-in);
+        no-whole = λ other member out part. Part-antisym other rest (holds-all other member out) part;
+      })
 
   pub route-largest-none : (set : ℕ) → route-largest n s t h marks ≡ None → RouteMember n s t set → Entered (h .links) marks set
   route-largest-none set e member =

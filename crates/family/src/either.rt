@@ -1,8 +1,8 @@
 //! Either of two families, so that one call can be handed families of different kinds.
 ghost use Rattle.family.specs.Eithers.{of-either};
+use crate::interface::Family;
 use digraph::table::LINKS;
 use sheet::Sheet;
-use crate::interface::Family;
 
 /// A family of one kind or of another.
 #[derive(Clone, Copy)]

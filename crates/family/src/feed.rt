@@ -8,17 +8,17 @@ ghost use Rattle.std.specs.declared.option.Option.the-variants.{None};
 ghost use Rattle.refusal.specs.Checks.{first};
 ghost use Rattle.sheet.specs.Calls.{open-checks};
 ghost use Rattle.family.specs.Choices.{FeedMember, feed-smallest, feed-largest, better as better-of, fewest-from};
+use crate::interface::Family;
+use crate::reach::Direction;
+use crate::reach::others;
+use crate::reach::stations_reached;
+use crate::reach::steps;
 use digraph::search::STATIONS;
 use digraph::search::reached;
 use digraph::table::LINKS;
 use refusal::Refusal;
 use sheet::Sheet;
 use stations::holds;
-use crate::interface::Family;
-use crate::reach::Direction;
-use crate::reach::others;
-use crate::reach::stations_reached;
-use crate::reach::steps;
 
 /// Every non-empty set without the base. Links that enter all of them feed every station.
 #[derive(Clone, Copy)]

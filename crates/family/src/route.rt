@@ -6,14 +6,14 @@ ghost use Rattle.std.specs.Vec.{made};
 ghost use Rattle.refusal.specs.Checks.{first};
 ghost use Rattle.family.specs.Choices.{RouteMember, route-smallest, route-largest};
 ghost use Rattle.family.specs.Making.{route-checks};
-use digraph::table::LINKS;
-use refusal::Refusal;
-use sheet::Sheet;
-use stations::holds;
 use crate::interface::Family;
 use crate::reach::others;
 use crate::reach::stations_reached;
 use crate::reach::stations_reaching;
+use digraph::table::LINKS;
+use refusal::Refusal;
+use sheet::Sheet;
+use stations::holds;
 
 /// The sets with the route's end and without its start. Links that enter all of them lead from the
 /// start to the end.
@@ -71,7 +71,11 @@ pub impl Family for Route as RouteFamily {
             return None;
         }
         let set = stations_reaching(sheet, marks, self.end);
-        if holds(set, self.start) { None } else { Some(set) }
+        if holds(set, self.start) {
+            None
+        } else {
+            Some(set)
+        }
     }
 
     fn largest(&self, sheet: &Sheet, marks: &[u8; LINKS]) -> Option<u64> {
@@ -79,6 +83,10 @@ pub impl Family for Route as RouteFamily {
             return None;
         }
         let rest = others(self.stations, stations_reached(sheet, marks, self.start));
-        if holds(rest, self.end) { Some(rest) } else { None }
+        if holds(rest, self.end) {
+            Some(rest)
+        } else {
+            None
+        }
     }
 }

@@ -11,7 +11,6 @@ pub record Check : Type 0 where
   pub gives : Refusal
 
 infix 20 _refuses-with_
-
 abbrev pub _refuses-with_ : Bool → Refusal → Check
 b refuses-with e = record { fails = b; gives = e }
 

@@ -19,7 +19,8 @@ use Rattle.digraph.specs.Trees.{SpanningTree}
 use Rattle.sheet.specs.declared.tree.Tree.{Tree}
 use Rattle.sheet.specs.Calls.{listed}
 use Rattle.sheet.proofs.Columns.{listed-at-place}
-use Rattle.sheet.specs.Keeps.{Proper, Spans}
+use Rattle.digraph.specs.Links.{Proper}
+use Rattle.sheet.specs.Keeps.{Spans}
 
 -- nothing is at any number of an empty table
 pub none-in-empty : (n k : ℕ) → linkAt (replicate n None) k ≡ None
@@ -56,10 +57,10 @@ no-tree-spans n slots t e = absurd (some-is-not-none refl e)
 
 -- a tree stays where a number gets another link, if it is none of the tree's
 pub spanning-after-set
-  : (n : ℕ) (slots : Slots) (list : List ℕ) (k : ℕ) (o : Option Link)
-  → ((i : ℕ) → i < length list → getD list i 0 ≡ k → ⊥)
-  → SpanningTree n slots list
-  → SpanningTree n (set slots k o) list
+    : (n : ℕ) (slots : Slots) (list : List ℕ) (k : ℕ) (o : Option Link)
+    → ((i : ℕ) → i < length list → getD list i 0 ≡ k → ⊥)
+    → SpanningTree n slots list
+    → SpanningTree n (set slots k o) list
 spanning-after-set n slots list k o other t =
     spanning-tree-of-same-links n slots (set slots k o) list (λ i h. sym (getD-set-other slots k (getD list i 0) o None (other i h))) t
 
@@ -79,20 +80,20 @@ none-from-test None e = refl
 none-from-test (Some x) e = cc
 
 pub spans-without-link
-  : (n : ℕ) (slots : Slots) (tree : Option Tree) (k : ℕ)
-  → listed k (valueOr (mapped (λ t. take (n - 1) (t .numbers)) tree) []) ≡ false
-  → Spans n slots tree
-  → Spans n (set slots k None) tree
+    : (n : ℕ) (slots : Slots) (tree : Option Tree) (k : ℕ)
+    → listed k (valueOr (mapped (λ t. take (n - 1) (t .numbers)) tree) []) ≡ false
+    → Spans n slots tree
+    → Spans n (set slots k None) tree
 spans-without-link n slots tree k free spans t e =
     let out : listed k (take (n - 1) (t .numbers)) ≡ false = subst (λ (o : Option Tree). listed k (valueOr (mapped (λ t. take (n - 1) (t .numbers)) o) []) ≡ false) e free in
     ∥∥₁-map (spans t e) (spanning-after-set n slots _ k None (λ i h q. both-ways _ out (listed-at-place k _ i h q)))
 
 pub spans-with-tree
-  : (n : ℕ) (slots : Slots) (tree : Tree) (list : List ℕ)
-  → length list ≡ n - 1
-  → take (length list) (tree .numbers) ≡ list
-  → SpanningTree n slots list
-  → Spans n slots (Some tree)
+    : (n : ℕ) (slots : Slots) (tree : Tree) (list : List ℕ)
+    → length list ≡ n - 1
+    → take (length list) (tree .numbers) ≡ list
+    → SpanningTree n slots list
+    → Spans n slots (Some tree)
 spans-with-tree n slots tree list count is t other e =
     let same : tree ≡ other = cc in
     let list-of : take (n - 1) (tree .numbers) ≡ list = ap (λ (k : ℕ). take k (tree .numbers)) (sym count) ∙ is in

@@ -27,10 +27,10 @@ held-tree-spans n slots (Some t) spans list e =
 
 pub sheet-is-sound : (s : Sheet) → Sound (held s)
 sheet-is-sound s =
-    record
-      { some = s .some;
-        few = s .few;
-        sized = s .links .sized;
-        proper = s .proper;
-        spans = held-tree-spans (s .stations) (s .links .slots) (s .tree) (s .spans)
-      }
+    record {
+      some = s .some;
+      few = s .few;
+      sized = s .links .sized;
+      proper = s .proper;
+      spans = held-tree-spans (s .stations) (s .links .slots) (s .tree) (s .spans);
+    }

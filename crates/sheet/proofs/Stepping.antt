@@ -25,7 +25,7 @@ use Rattle.digraph.specs.declared.link.Link.{Link}
 use Rattle.digraph.proofs.Stepping.{AllLow, Somewhere, next-somewhere, somewhere-next}
 use Rattle.digraph.proofs.Walks.{path-by-other-steps}
 use Rattle.sheet.specs.Calls.{all-links}
-use Rattle.sheet.specs.Keeps.{Proper}
+use Rattle.digraph.specs.Links.{Proper}
 
 -- a test that every number names a link, place by place
 named-each : (slots : Slots) (ks : List ℕ) → all-links slots ks ≡ true → (i : ℕ) → i < length ks → isSome (linkAt slots (getD ks i 0)) ≡ true
@@ -53,7 +53,7 @@ module _ (n : ℕ) (slots : Slots) (proper : Proper n slots) (few : n ≤ 40) wh
 
   -- a search over the steps that sees every station, and no other, has found a spanning tree
   module _ (some : 2 ≤ n) (ks : List ℕ) (count : length ks + 1 ≡ n) (named : all-links slots ks ≡ true) (r : ℕ)
-    (found : (v : ℕ) → Decides (has r v) (Path (Next (steps-from (replicate 40 0) (map (linkAt slots) ks))) 0 v)) where
+      (found : (v : ℕ) → Decides (has r v) (Path (Next (steps-from (replicate 40 0) (map (linkAt slots) ks))) 0 v)) where
     next-along : (u v : ℕ) → Next (steps-from (replicate 40 0) (map (linkAt slots) ks)) u v → Along slots ks u v
     next-along u v h = somewhere-along ks u v (next-somewhere (map (linkAt slots) ks) (links-low ks) u v h)
 
@@ -69,14 +69,15 @@ module _ (n : ℕ) (slots : Slots) (proper : Proper n slots) (few : n ≤ 40) wh
       where
         tree : eqb r (2 ^ n - 1) ≡ true → SpanningTree n slots ks
         tree e =
-            record
-              { one-fewer = count;
-                of-links = named-each slots ks named;
-                reaches = λ v h. path-by-other-steps next-along (found v .0 (In→has r v (subst (λ (m : ℕ). In m v) (sym (eqb-true r (2 ^ n - 1) e)) (digit-ones-below n v h))))
-              }
+            record {
+              one-fewer = count;
+              of-links = named-each slots ks named;
+              reaches = λ v h. path-by-other-steps next-along (found v .0 (In→has r v (subst (λ (m : ℕ). In m v) (sym (eqb-true r (2 ^ n - 1) e)) (digit-ones-below n v h))));
+            }
+
         seen : SpanningTree n slots ks → eqb r (2 ^ n - 1) ≡ true
         seen t =
             eq-eqb r (2 ^ n - 1)
             (Part-antisym r (2 ^ n - 1)
-              (λ v i. digit-ones-below n v (reached-is-station v (found v .0 (In→has r v i))))
-              (λ v i. has→In r v (found v .1 (path-by-other-steps along-next (t .reaches v (In-below n (2 ^ n - 1) v (omega (arith, pow-pos n)) i))))))
+            (λ v i. digit-ones-below n v (reached-is-station v (found v .0 (In→has r v i))))
+            (λ v i. has→In r v (found v .1 (path-by-other-steps along-next (t .reaches v (In-below n (2 ^ n - 1) v (omega (arith, pow-pos n)) i))))))

@@ -17,11 +17,11 @@ pub record Held : Type 0 where
 
 abbrev pub held : Sheet → Held
 held s =
-    record
-      { stations = s .stations;
-        links = s .links .slots;
-        tree = mapped (λ t. take (s .stations - 1) (t .numbers)) (s .tree)
-      }
+    record {
+      stations = s .stations;
+      links = s .links .slots;
+      tree = mapped (λ t. take (s .stations - 1) (t .numbers)) (s .tree);
+    }
 
 -- just opened for so many stations: no links and no tree
 abbrev pub opened : ℕ → Held

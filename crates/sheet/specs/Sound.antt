@@ -6,7 +6,7 @@ use mathlib.Core.Path.{_≡_}
 use Rattle.std.specs.declared.option.Option.the-variants.{Some}
 use Rattle.digraph.specs.Trees.{SpanningTree}
 use Rattle.sheet.specs.Held.{Held}
-use Rattle.sheet.specs.Keeps.{Proper}
+use Rattle.digraph.specs.Links.{Proper}
 
 pub record Sound (h : Held) : Type 0 where
   pub some : 2 ≤ h .stations

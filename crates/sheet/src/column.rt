@@ -7,11 +7,11 @@ ghost use Rattle.std.specs.Results.{errPart};
 ghost use Rattle.refusal.specs.Checks.{first};
 ghost use Rattle.sheet.specs.Held.{held};
 ghost use Rattle.sheet.specs.Calls.{column-checks, priced, priced-at};
+use crate::Sheet;
 use amount::kind::Amount;
 use digraph::table::LINKS;
 use digraph::table::LinkTable;
 use refusal::Refusal;
-use crate::Sheet;
 
 impl Sheet {
     /// The checks that every call but open begins with: the column has a place for each link number,

@@ -8,15 +8,15 @@ ghost use Rattle.digraph.specs.Trees.{SpanningTree};
 ghost use Rattle.refusal.specs.Checks.{first};
 ghost use Rattle.sheet.specs.Held.{held, with-tree};
 ghost use Rattle.sheet.specs.Calls.{install-checks, tree-checks};
-use amount::kind::Amount;
-use refusal::Refusal;
 use crate::Sheet;
 use crate::numbers::Listed;
 use crate::numbers::ListedNumbers;
 use crate::numbers::Numbers;
-use crate::spanning::tree_of;
 use crate::spanning::names_links;
 use crate::spanning::spans;
+use crate::spanning::tree_of;
+use amount::kind::Amount;
+use refusal::Refusal;
 
 impl Sheet {
     /// Installs the tree of a list of link numbers, in place of any earlier one.

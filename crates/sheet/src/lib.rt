@@ -1,8 +1,9 @@
 //! The sheet: stations, links by number, and the tree that a fleet's masts are aimed along.
 ghost use Prim.Native.Nat.{_≤_};
-ghost use Rattle.sheet.specs.Keeps.{Proper, Spans};
-use digraph::table::LinkTable;
+ghost use Rattle.digraph.specs.Links.{Proper};
+ghost use Rattle.sheet.specs.Keeps.{Spans};
 use crate::tree::Tree;
+use digraph::table::LinkTable;
 
 pub mod adding;
 pub mod column;

@@ -5,9 +5,9 @@ ghost use Rattle.std.specs.Results.{errPart, isOk};
 ghost use Rattle.refusal.specs.Checks.{first};
 ghost use Rattle.sheet.specs.Held.{held, opened};
 ghost use Rattle.sheet.specs.Calls.{open-checks};
+use crate::Sheet;
 use digraph::table::LinkTable;
 use refusal::Refusal;
-use crate::Sheet;
 
 impl Sheet {
     /// A new sheet, as if opened for 2 stations.

@@ -7,9 +7,9 @@ ghost use Rattle.std.specs.Results.{errPart, isOk};
 ghost use Rattle.refusal.specs.Checks.{first};
 ghost use Rattle.sheet.specs.Held.{held};
 ghost use Rattle.sheet.specs.Calls.{reprice-checks};
+use crate::Sheet;
 use amount::kind::Amount;
 use refusal::Refusal;
-use crate::Sheet;
 
 impl Sheet {
     /// Puts another price into the column for a link of the sheet.

@@ -5,9 +5,9 @@ ghost use Rattle.std.specs.Options.{isSome};
 ghost use Rattle.digraph.specs.Links.{linkAt};
 ghost use Rattle.sheet.specs.Held.{held};
 ghost use Rattle.sheet.specs.Calls.{in-tree as tree-has, listed};
+use crate::Sheet;
 use digraph::link::Link;
 use digraph::table::LINKS;
-use crate::Sheet;
 
 impl Sheet {
     /// The number of stations.

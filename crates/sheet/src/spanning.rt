@@ -10,13 +10,13 @@ ghost use Rattle.digraph.specs.Steps.{steps-from};
 ghost use Rattle.digraph.specs.Trees.{SpanningTree};
 ghost use Rattle.sheet.specs.Held.{held};
 ghost use Rattle.sheet.specs.Calls.{all-links};
-use digraph::search::STATIONS;
-use digraph::search::reached;
-use digraph::steps::add_step;
 use crate::Sheet;
 use crate::numbers::Numbers;
 use crate::tree::TREE_LINKS;
 use crate::tree::Tree;
+use digraph::search::STATIONS;
+use digraph::search::reached;
+use digraph::steps::add_step;
 
 /// Whether every number of the list names a link of the sheet.
 pub fn names_links<L: Numbers>(sheet: &Sheet, list: &L) -> bool

@@ -7,9 +7,9 @@ ghost use Rattle.std.specs.declared.option.Option.the-variants.{None};
 ghost use Rattle.refusal.specs.Checks.{first};
 ghost use Rattle.sheet.specs.Held.{held, with-link};
 ghost use Rattle.sheet.specs.Calls.{withdraw-checks};
+use crate::Sheet;
 use amount::kind::Amount;
 use refusal::Refusal;
-use crate::Sheet;
 
 impl Sheet {
     /// Takes a link off the sheet: its number is free again, and the column stays as it is.

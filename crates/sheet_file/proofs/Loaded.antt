@@ -60,26 +60,26 @@ column-passes h ps size legal-all = grind (arith, tells)
 module _ (place : ℕ) (ps : List (List ℤ)) where
   -- what adding a record comes to, by what the link's own checks say
   step-by-checks
-    : (o : Option Refusal) (h : Held) (e : Entry) (es : List Entry)
-    → (o ≡ None → adding (place + 1) (with-column (with-link h (e .number) (Some (link-of e))) (set ps (e .number) (e .price))) es ≡ mapped (λ x. with-column x (writing (set ps (e .number) (e .price)) es)) (λ r. r) (placing (place + 1) (with-link h (e .number) (Some (link-of e))) es))
-    → unless-refused o (λ r. FileRecord place (numberOf r)) (adding (place + 1) (with-column (with-link h (e .number) (Some (link-of e))) (set ps (e .number) (e .price))) es)
+      : (o : Option Refusal) (h : Held) (e : Entry) (es : List Entry)
+      → (o ≡ None → adding (place + 1) (with-column (with-link h (e .number) (Some (link-of e))) (set ps (e .number) (e .price))) es ≡ mapped (λ x. with-column x (writing (set ps (e .number) (e .price)) es)) (λ r. r) (placing (place + 1) (with-link h (e .number) (Some (link-of e))) es))
+      → unless-refused o (λ r. FileRecord place (numberOf r)) (adding (place + 1) (with-column (with-link h (e .number) (Some (link-of e))) (set ps (e .number) (e .price))) es)
       ≡ mapped (λ x. with-column x (writing ps (e ∷ es))) (λ r. r) (unless-refused o (λ r. FileRecord place (numberOf r)) (placing (place + 1) (with-link h (e .number) (Some (link-of e))) es))
   step-by-checks None h e es go = go refl
   step-by-checks (Some why) h e es go = refl
 
 pub adding-is-placing-and-writing
-  : (es : List Entry) (place : ℕ) (h : Held) (ps : List (List ℤ))
-  → length ps ≡ 200
-  → priced (h .links) ps ≡ true
-  → adding place (with-column h ps) es ≡ mapped (λ x. with-column x (writing ps es)) (λ r. r) (placing place h es)
+    : (es : List Entry) (place : ℕ) (h : Held) (ps : List (List ℤ))
+    → length ps ≡ 200
+    → priced (h .links) ps ≡ true
+    → adding place (with-column h ps) es ≡ mapped (λ x. with-column x (writing ps es)) (λ r. r) (placing place h es)
 adding-is-placing-and-writing [] place h ps size legal-all = refl
 adding-is-placing-and-writing (e ∷ es) place h ps size legal-all =
     let checks = link-checks h (e .number) (e .tail) (e .head) (e .price) in
     ap (λ o. unless-refused o (λ r. FileRecord place (numberOf r)) (adding (place + 1) (with-column (with-link h (e .number) (Some (link-of e))) (set ps (e .number) (e .price))) es))
     (first-of-back (column-checks h ps) checks (column-passes h ps size legal-all))
     ∙ step-by-checks place ps (first checks) h e es
-      (λ passed. adding-is-placing-and-writing es (place + 1) (with-link h (e .number) (Some (link-of e))) (set ps (e .number) (e .price)) (length-set ps (e .number) (e .price) ∙ size)
-        (priced-with-link (h .links) ps (e .number) (link-of e) (e .price) legal-all (passed-link-is-legal h (e .number) (e .tail) (e .head) (e .price) passed)))
+    (λ passed. adding-is-placing-and-writing es (place + 1) (with-link h (e .number) (Some (link-of e))) (set ps (e .number) (e .price)) (length-set ps (e .number) (e .price) ∙ size)
+    (priced-with-link (h .links) ps (e .number) (link-of e) (e .price) legal-all (passed-link-is-legal h (e .number) (e .tail) (e .head) (e .price) passed)))
 
 -- what a sheet is after every record was placed
 pub record Placed (h after : Held) (ps : List (List ℤ)) (es : List Entry) : Type 0 where
@@ -99,21 +99,21 @@ accepted (Some e) told rest after p = absurd (refused-is-not-ok p)
 pub placed : (es : List Entry) (place : ℕ) (h after : Held) (ps : List (List ℤ)) → placing place h es ≡ Ok after → Placed h after ps es
 placed [] place h after ps p =
     let same : h ≡ after = cc in
-    record
-      { same-stations = ap (λ x. x .stations) (sym same);
-        links-are = ap (λ x. x .links) (sym same);
-        sized = λ e. e;
-        legal-all = λ e. ap (λ x. priced (x .links) ps) (sym same) ∙ e
-      }
+    record {
+      same-stations = ap (λ x. x .stations) (sym same);
+      links-are = ap (λ x. x .links) (sym same);
+      sized = λ e. e;
+      legal-all = λ e. ap (λ x. priced (x .links) ps) (sym same) ∙ e;
+    }
 placed (e ∷ es) place h after ps p =
     let parts = accepted (first (link-checks h (e .number) (e .tail) (e .head) (e .price))) (λ r. FileRecord place (numberOf r)) (placing (place + 1) (with-link h (e .number) (Some (link-of e))) es) after p in
     let rest = placed es (place + 1) (with-link h (e .number) (Some (link-of e))) after (set ps (e .number) (e .price)) (parts .1) in
-    record
-      { same-stations = rest .same-stations;
-        links-are = rest .links-are;
-        sized = λ size. rest .sized (length-set ps (e .number) (e .price) ∙ size);
-        legal-all = λ all. rest .legal-all (priced-with-link (h .links) ps (e .number) (link-of e) (e .price) all (passed-link-is-legal h (e .number) (e .tail) (e .head) (e .price) (parts .0)))
-      }
+    record {
+      same-stations = rest .same-stations;
+      links-are = rest .links-are;
+      sized = λ size. rest .sized (length-set ps (e .number) (e .price) ∙ size);
+      legal-all = λ all. rest .legal-all (priced-with-link (h .links) ps (e .number) (link-of e) (e .price) all (passed-link-is-legal h (e .number) (e .tail) (e .head) (e .price) (parts .0)));
+    }
 
 -- the number of a record that was placed is a place of the column
 pub placed-is-numbered : (w : ℕ) (bs : List ℕ) (start n place : ℕ) (h after : Held) → placing place h (entries-from w bs start n) ≡ Ok after → (i : ℕ) → i < n → entry-at w bs (start + i) .number < 200
@@ -140,10 +140,10 @@ planted h ps (k ∷ ks) spans size all =
     by-checks (Some e) = refl
 
 pub loading-on-a-sheet-of-its-own
-  : (w kind : ℕ) (file : List ℕ) (ps : List (List ℤ)) (spans : Bool)
-  → first (load-checks w kind file ps) ≡ None
-  → length ps ≡ 200
-  → loading w kind file ps spans ≡ mapped (λ x. with-column x (writing ps (entries w file))) (λ r. r) (sheet-from (stations-of file) (entries w file) (tree-numbers file) spans)
+    : (w kind : ℕ) (file : List ℕ) (ps : List (List ℤ)) (spans : Bool)
+    → first (load-checks w kind file ps) ≡ None
+    → length ps ≡ 200
+    → loading w kind file ps spans ≡ mapped (λ x. with-column x (writing ps (entries w file))) (λ r. r) (sheet-from (stations-of file) (entries w file) (tree-numbers file) spans)
 loading-on-a-sheet-of-its-own w kind file ps spans passed size =
     let n = stations-of file in
     let es = entries w file in
@@ -218,7 +218,7 @@ file-refused w kind file ps spans e size refused =
     (refused ∙ sym (load-checks-of-file w kind file ps size))
 
 module _ (w kind : ℕ) (file : List ℕ) (passed : None ≡ first (file-checks w kind file)) (n : ℕ) (bs tree : List ℕ)
-  (n-is : n ≡ stations-of file) (bs-are : bs ≡ bytes-of file (records-section file)) (tree-is : tree ≡ tree-numbers file) where
+    (n-is : n ≡ stations-of file) (bs-are : bs ≡ bytes-of file (records-section file)) (tree-is : tree ≡ tree-numbers file) where
   whole : Whole file
   whole = passed-file-is-whole w kind file (sym passed)
 
@@ -237,7 +237,7 @@ module _ (w kind : ℕ) (file : List ℕ) (passed : None ≡ first (file-checks 
   same-decision spans d =
       subst (λ t. Decides spans (SpanningTree n (links-of no-links (entries-from w bs 0 (length bs / record-length w))) t)) (sym tree-is)
       (subst (λ m. Decides spans (SpanningTree m (links-of no-links (entries-from w bs 0 (length bs / record-length w))) (tree-numbers file))) (sym n-is)
-        (subst (λ es. Decides spans (SpanningTree (stations-of file) (links-of no-links es) (tree-numbers file))) (sym same-entries) d))
+      (subst (λ es. Decides spans (SpanningTree (stations-of file) (links-of no-links es) (tree-numbers file))) (sym same-entries) d))
 
   module _ (ps : List (List ℤ)) (size : length ps ≡ 200) (spans : Bool) where
     same-loading : mapped (λ x. with-column x (writing ps (entries-from w bs 0 (length bs / record-length w)))) (λ r. r) (sheet-from n (entries-from w bs 0 (length bs / record-length w)) tree spans) ≡ loading w kind file ps spans

@@ -67,7 +67,7 @@ abbrev pub loading : ℕ → ℕ → List ℕ → List (List ℤ) → Bool → R
 loading width kind file column spans =
     unless-refused (first (load-checks width kind file column)) (λ r. r)
     (and-then (adding 0 (with-column (opened (stations-of file)) column) (entries width file))
-      (λ s. installing s (tree-numbers file) spans))
+    (λ s. installing s (tree-numbers file) spans))
 
 -- the links that the records of a file put on a sheet
 abbrev pub links-of : Slots → List Entry → Slots

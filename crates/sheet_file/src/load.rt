@@ -12,16 +12,16 @@ ghost use Rattle.sheet.specs.Held.{held, opened};
 ghost use Rattle.sheet_file.specs.Files.{entries, entries-from, stations-of, tree-numbers};
 ghost use Rattle.sheet_file.specs.Loading.{with-column, loading, file-links, links-of, mentions, no-links};
 ghost use Rattle.sheet_file.specs.Placing.{placing, sheet-from};
-use amount::kind::Amount;
-use digraph::table::LINKS;
-use refusal::Refusal;
-use sheet::Sheet;
 use crate::records::place_records;
 use crate::records::write_prices;
 use crate::tree_bytes::TreeBytes;
 use crate::tree_bytes::TreeBytesNumbers;
 use crate::view::SheetFile;
 use crate::view::view;
+use amount::kind::Amount;
+use digraph::table::LINKS;
+use refusal::Refusal;
+use sheet::Sheet;
 
 /// Loads a sheet file: the sheet and the column come to hold what opening the sheet, adding the file's
 /// links and installing its tree give. What the sheet held before is gone; of the column only the

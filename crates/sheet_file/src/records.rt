@@ -10,11 +10,11 @@ ghost use Rattle.sheet.specs.Held.{held};
 ghost use Rattle.sheet_file.specs.Files.{entries-from, entry-at};
 ghost use Rattle.sheet_file.specs.Loading.{mentions};
 ghost use Rattle.sheet_file.specs.Placing.{placing, writing};
+use crate::entry::count_records;
+use crate::entry::record_at;
 use amount::kind::Amount;
 use refusal::Refusal;
 use sheet::Sheet;
-use crate::entry::count_records;
-use crate::entry::record_at;
 
 /// Puts the links of all records on a sheet, or tells which record was refused and by what number.
 pub fn place_records<T: Amount>(sheet: &mut Sheet, records: &[u8]) -> Result<(), Refusal>

@@ -6,11 +6,11 @@ ghost use Rattle.std.specs.Results.{errPart};
 ghost use Rattle.std.specs.Vec.{made};
 ghost use Rattle.refusal.specs.Checks.{first};
 ghost use Rattle.sheet_file.specs.Files.{file-checks, bytes-of, stations-of, records-section, tree-section};
-use amount::kind::Amount;
-use refusal::Refusal;
 use crate::section::Section;
 use crate::section::is_bad;
 use crate::section::pair_at;
+use amount::kind::Amount;
+use refusal::Refusal;
 
 /// A view of a sheet file: the number of stations, and the two sections where they lie in the file.
 #[derive(Clone, Copy)]
@@ -44,7 +44,9 @@ pub fn view<'a, T: Amount>(file: &'a [u8]) -> Result<SheetFile<'a>, Refusal>
     if is_bad(file, 20, records) || is_bad(file, records.start + records.size, tree) {
         return Err(Refusal::FilePair);
     }
-    if records.size % T::record_length() != 0 || tree.size != 0 && tree.size != stations as usize - 1 {
+    if records.size % T::record_length() != 0
+        || tree.size != 0 && tree.size != stations as usize - 1
+    {
         return Err(Refusal::FileSection);
     }
     Ok(SheetFile {

@@ -1,5 +1,9 @@
 //! Reads a sheet file from standard input, loads it and prints the sheet: a line for each link, by
 //! rising number, and one for the installed tree; or the line of the refusal.
+use crate::shown::CentsMinutesShown;
+use crate::shown::CentsShown;
+use crate::shown::Shown;
+use crate::shown::print_sheet;
 use amount::cents::Cents;
 use amount::cents_minutes::CentsMinutes;
 use annex::refusal_line::write_refusal;
@@ -10,10 +14,6 @@ use sheet_file::load::load;
 use std::error::AnyError;
 use std::io::Read;
 use std::io::Write;
-use crate::shown::CentsShown;
-use crate::shown::CentsMinutesShown;
-use crate::shown::Shown;
-use crate::shown::print_sheet;
 
 mod shown;
 
@@ -47,7 +47,14 @@ fn main(rt: LibcRuntime) -> Result<(), AnyError> {
     let mut file = Vec::new(rt.alloc());
     rt.stdin().take(MOST_BYTES).read_to_end(&mut file)?;
     if file.first().copied() == Some(2) {
-        run(&rt, &file, &mut [CentsMinutes { cents: 0, minutes: 0 }; LINKS])
+        run(
+            &rt,
+            &file,
+            &mut [CentsMinutes {
+                cents: 0,
+                minutes: 0,
+            }; LINKS],
+        )
     } else {
         run(&rt, &file, &mut [Cents { cents: 0 }; LINKS])
     }

@@ -31,7 +31,11 @@ pub impl Shown for CentsMinutes as CentsMinutesShown {
 
 /// Prints a sheet: by rising number `link`, number, tail, head and price, and then, if a tree is
 /// installed, `tree` and its numbers rising.
-pub fn print_sheet<T: Shown>(rt: &LibcRuntime, sheet: &Sheet, prices: &[T]) -> Result<(), AnyError> {
+pub fn print_sheet<T: Shown>(
+    rt: &LibcRuntime,
+    sheet: &Sheet,
+    prices: &[T],
+) -> Result<(), AnyError> {
     for number in 0..200u16 {
         if let (Some(link), Some(price)) = (sheet.link(number), prices.get(number as usize)) {
             let tail = link.tail;

@@ -14,10 +14,10 @@ use Rattle.family.proofs.reach.stations_reached.Needs as need
 pub reached-requires : need.reached-requires
 reached-requires c κs =
     let s = c .args .sheet .now in
-    record
-      { in-range = omega (arith, s .few);
-        bounded = λ u h. subst (λ m. getD m u 0 < 2 ^ 40) (sym (c .steps .ensures)) (marked-steps-low (s .stations) (s .links .slots) (s .proper) (s .few) (s .links .sized) (c .args .marks .now) Forth u)
-      }
+    record {
+      in-range = omega (arith, s .few);
+      bounded = λ u h. subst (λ m. getD m u 0 < 2 ^ 40) (sym (c .steps .ensures)) (marked-steps-low (s .stations) (s .links .slots) (s .proper) (s .few) (s .links .sized) (c .args .marks .now) Forth u);
+    }
 
 pub returns : need.returns
 returns c =
@@ -25,10 +25,10 @@ returns c =
     let ms = c .args .marks .now in
     let v = c .args .station in
     let is = c .reached .ensures .value ∙ ap (λ m. reach-set m v) (c .steps .ensures) in
-    record
-      { value = is;
-        inside = subst (λ r. r < 2 ^ s .stations) (sym is) (reached-inside (s .stations) (s .links .slots) (s .proper) (s .few) (s .links .sized) ms v (c .pre));
-        has-it = subst (λ r. In r v) (sym is) (reached-has-it (s .stations) (s .links .slots) (s .proper) (s .few) (s .links .sized) ms v (c .pre));
-        paths = λ u. paths-from (s .stations) (s .links .slots) (s .proper) (s .few) (s .links .sized) ms v (c .pre) (c .reached .result) u
-          (subst (λ m. Decides (has (c .reached .result) u) (Path (Next m) v u)) (c .steps .ensures) (c .reached .ensures .paths u))
-      }
+    record {
+      value = is;
+      inside = subst (λ r. r < 2 ^ s .stations) (sym is) (reached-inside (s .stations) (s .links .slots) (s .proper) (s .few) (s .links .sized) ms v (c .pre));
+      has-it = subst (λ r. In r v) (sym is) (reached-has-it (s .stations) (s .links .slots) (s .proper) (s .few) (s .links .sized) ms v (c .pre));
+      paths = λ u. paths-from (s .stations) (s .links .slots) (s .proper) (s .few) (s .links .sized) ms v (c .pre) (c .reached .result) u
+          (subst (λ m. Decides (has (c .reached .result) u) (Path (Next m) v u)) (c .steps .ensures) (c .reached .ensures .paths u));
+    }

@@ -23,11 +23,11 @@ loop-k-again c =
     let f = marked-link (c .args .way) (c .args .sheet .now .links .slots) (c .args .marks .now) in
     let os = map f (counting 0 200) in
     let k = c .loop-k .k in
-    let read : c .marked .result ≡ getD os k None = c .marked .ensures ∙ sym (getD-map-counting f 0 200 k k None (omega arith) (omega arith)) in
-    ( ap length (c .add-step .ensures) ∙ next-step-sized (c .marked .result) (c .loop-k .next) (c .loop-k .inv .0),
+    let read : c .marked .result ≡ getD os k None = c .marked .ensures ∙ sym (getD-map-counting f 0 200 k k None (omega arith) (omega arith)) in (
+      ap length (c .add-step .ensures) ∙ next-step-sized (c .marked .result) (c .loop-k .next) (c .loop-k .inv .0),
       ap (λ m. steps-from m (drop (k + 1) os)) (c .add-step .ensures)
-      ∙ steps-one-on os (c .loop-k .next) k (c .marked .result) (omega (arith, length-map-counting f 0 200)) read
-      ∙ c .loop-k .inv .1
+          ∙ steps-one-on os (c .loop-k .next) k (c .marked .result) (omega (arith, length-map-counting f 0 200)) read
+          ∙ c .loop-k .inv .1,
     )
 
 pub returns : need.returns

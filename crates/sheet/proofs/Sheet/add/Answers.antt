@@ -20,12 +20,12 @@ returns-in-Break-check-column g c =
     let ps = map (g .T·Amount .parts) (a .prices .now) in
     let p = err-from-errBy (c .from-residual .result) (c .from-residual .ensures .1) in
     rw (p .1, p .2)
-    (record
-      { refusal = sym (first-of-front (column-checks h ps) (link-checks h (a .number) (a .tail) (a .head) (g .T·Amount .parts (a .price))) _ (sym (c .in-Break-check-column .ensures tt)));
-        kept = λ _. refl;
-        holds = refl;
-        column = refl
-      })
+    (record {
+      refusal = sym (first-of-front (column-checks h ps) (link-checks h (a .number) (a .tail) (a .head) (g .T·Amount .parts (a .price))) _ (sym (c .in-Break-check-column .ensures tt)));
+      kept = λ _. refl;
+      holds = refl;
+      column = refl;
+    })
 
 -- after both checks the number is a place of the column
 in-column : (g : given.Over) (c : need.In-Continue-place g) → c .args .number < length (c .args .prices .now)

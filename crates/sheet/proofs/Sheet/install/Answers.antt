@@ -9,8 +9,8 @@ pub returns : need.returns
 returns g c =
     let h = held (c .args .self .now) in
     let ps = map (g .T·Amount .parts) (c .args .prices .now) in
-    record
-      { refusal = λ b d. c .plant .ensures .refusal b d ∙ sym (first-of-back (column-checks h ps) (tree-checks h (c .args .list .now) b) (sym (c .in-Continue-check-column .ensures tt)));
-        kept = c .plant .ensures .kept;
-        holds = c .plant .ensures .holds
-      }
+    record {
+      refusal = λ b d. c .plant .ensures .refusal b d ∙ sym (first-of-back (column-checks h ps) (tree-checks h (c .args .list .now) b) (sym (c .in-Continue-check-column .ensures tt)));
+      kept = c .plant .ensures .kept;
+      holds = c .plant .ensures .holds;
+    }

@@ -1,6 +1,6 @@
 use native.Mathlib.Omega.{arith}
 use mathlib.Core.Path.{sym, subst}
-use Rattle.sheet.specs.Keeps.{Proper}
+use Rattle.digraph.specs.Links.{Proper}
 use Rattle.sheet.proofs.Keeping.{proper-in-empty, no-tree-spans}
 use Rattle.sheet.proofs.Sheet.new.Needs as need
 

@@ -11,14 +11,14 @@ returns-then-is-none g c =
     let slots = c .args .sheet .now .links .slots in
     let ks = g .L·Numbers .numbers (c .args .list .now) in
     sym (not-all-links-from-place slots ks (c .loop-i .i) (c .loop-i .inv) (omega arith)
-      (ap (λ k. isSome (linkAt slots k)) (sym (c .at .ensures)) ∙ ap isSome (sym (c .link .ensures)) ∙ c .if-is-none .ensures tt))
+    (ap (λ k. isSome (linkAt slots k)) (sym (c .at .ensures)) ∙ ap isSome (sym (c .link .ensures)) ∙ c .if-is-none .ensures tt))
 
 pub loop-i-again : need.loop-i-again
 loop-i-again g c =
     let slots = c .args .sheet .now .links .slots in
     let ks = g .L·Numbers .numbers (c .args .list .now) in
     all-links-one-on slots ks (c .loop-i .i) (c .loop-i .inv) (omega arith)
-      (ap (λ k. isSome (linkAt slots k)) (sym (c .at .ensures)) ∙ ap isSome (sym (c .link .ensures)) ∙ c .if-is-none .ensures tt)
+    (ap (λ k. isSome (linkAt slots k)) (sym (c .at .ensures)) ∙ ap isSome (sym (c .link .ensures)) ∙ c .if-is-none .ensures tt)
 
 pub returns : need.returns
 returns g c =

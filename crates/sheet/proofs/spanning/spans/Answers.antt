@@ -18,10 +18,10 @@ use Rattle.sheet.proofs.spanning.spans.Needs as need
 pub reached-requires : need.reached-requires
 reached-requires g c κs =
     let s = c .args .sheet .now in
-    record
-      { in-range = omega arith;
-        bounded = λ u h. subst (λ x. getD x u 0 < 2 ^ 40) (sym (c .steps-along-next .ensures)) (steps-are-low (map (linkAt (s .links .slots)) (g .L·Numbers .numbers (c .args .list .now))) (links-low (s .stations) (s .links .slots) (s .proper) (s .few) (g .L·Numbers .numbers (c .args .list .now))) u)
-      }
+    record {
+      in-range = omega arith;
+      bounded = λ u h. subst (λ x. getD x u 0 < 2 ^ 40) (sym (c .steps-along-next .ensures)) (steps-are-low (map (linkAt (s .links .slots)) (g .L·Numbers .numbers (c .args .list .now))) (links-low (s .stations) (s .links .slots) (s .proper) (s .few) (g .L·Numbers .numbers (c .args .list .now))) u);
+    }
 
 pub returns : need.returns
 returns g c =

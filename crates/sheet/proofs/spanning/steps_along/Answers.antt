@@ -23,11 +23,11 @@ loop-i-again g c =
     let os = map (linkAt slots) ks in
     let i = c .loop-i .i in
     let here : i < length ks = omega arith in
-    let read : c .link .result ≡ getD os i None = c .link .ensures ∙ ap (linkAt slots) (c .at .ensures) ∙ sym (getD-map (linkAt slots) ks i 0 None here) in
-    ( ap length (c .add-step .ensures) ∙ next-step-sized (c .link .result) (c .loop-i .next) (c .loop-i .inv .0),
+    let read : c .link .result ≡ getD os i None = c .link .ensures ∙ ap (linkAt slots) (c .at .ensures) ∙ sym (getD-map (linkAt slots) ks i 0 None here) in (
+      ap length (c .add-step .ensures) ∙ next-step-sized (c .link .result) (c .loop-i .next) (c .loop-i .inv .0),
       ap (λ m. steps-from m (drop (i + 1) os)) (c .add-step .ensures)
-      ∙ steps-one-on os (c .loop-i .next) i (c .link .result) (omega (arith, length-map ks (linkAt slots))) read
-      ∙ c .loop-i .inv .1
+          ∙ steps-one-on os (c .loop-i .next) i (c .link .result) (omega (arith, length-map ks (linkAt slots))) read
+          ∙ c .loop-i .inv .1,
     )
 
 pub returns : need.returns

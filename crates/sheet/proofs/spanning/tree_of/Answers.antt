@@ -8,11 +8,11 @@ use Rattle.sheet.proofs.spanning.tree_of.Needs as need
 pub loop-i-again : need.loop-i-again
 loop-i-again g c =
     let ks = g .L·Numbers .numbers (c .args .list .now) in
-    let i = c .loop-i .i in
-    ( length-set (c .loop-i .tree) i (c .at .result) ∙ c .loop-i .inv .0,
+    let i = c .loop-i .i in (
+      length-set (c .loop-i .tree) i (c .at .result) ∙ c .loop-i .inv .0,
       take-more-set (c .loop-i .tree) i (c .at .result) (omega (arith, c .loop-i .inv .0))
-      ∙ ap₂ (λ a b. a ++ b ∷ []) (c .loop-i .inv .1) (c .at .ensures)
-      ∙ sym (take-more ks i 0 (omega arith))
+          ∙ ap₂ (λ a b. a ++ b ∷ []) (c .loop-i .inv .1) (c .at .ensures)
+          ∙ sym (take-more ks i 0 (omega arith)),
     )
 
 pub returns : need.returns

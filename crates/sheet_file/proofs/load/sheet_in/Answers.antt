@@ -20,10 +20,10 @@ returns-in-Break-place-records g c =
     let es = entries-from w (f .records .now) 0 (length (f .records .now) / record-length w) in
     let p = err-from-errBy (c .from-residual-in-Break-place-records .result) (c .from-residual-in-Break-place-records .ensures .1) in
     rw (p .1, p .2)
-    (record
-      { placed = λ ok. absurd (false≢true ok);
-        sheet = λ spans d. record-refused (f .stations) es (f .tree .now) spans _ (c .in-Break-place-records .ensures tt ∙ ap (λ h. placing 0 h es) (c .in-Continue-open .ensures tt .holds))
-      })
+    (record {
+      placed = λ ok. absurd (false≢true ok);
+      sheet = λ spans d. record-refused (f .stations) es (f .tree .now) spans _ (c .in-Break-place-records .ensures tt ∙ ap (λ h. placing 0 h es) (c .in-Continue-open .ensures tt .holds));
+    })
 
 pub returns-then-is-empty : need.returns-then-is-empty
 returns-then-is-empty g c =
@@ -31,10 +31,10 @@ returns-then-is-empty g c =
     let w = g .T·Amount .width in
     let es = entries-from w (f .records .now) 0 (length (f .records .now) / record-length w) in
     let p = c .in-Continue-place-records .ensures tt ∙ ap (λ h. placing 0 h es) (c .in-Continue-open .ensures tt .holds) in
-    record
-      { placed = λ _. ap isOk (sym p);
-        sheet = λ spans d. no-tree-to-plant (f .stations) es (f .tree .now) spans (held (c .place-records .last .sheet)) p (eqb-true (length (f .tree .now)) 0 (sym (c .if-is-empty .ensures tt)))
-      }
+    record {
+      placed = λ _. ap isOk (sym p);
+      sheet = λ spans d. no-tree-to-plant (f .stations) es (f .tree .now) spans (held (c .place-records .last .sheet)) p (eqb-true (length (f .tree .now)) 0 (sym (c .if-is-empty .ensures tt)));
+    }
 
 pub returns-in-Ok : need.returns-in-Ok
 returns-in-Ok g c =
@@ -43,14 +43,14 @@ returns-in-Ok g c =
     let es = entries-from w (f .records .now) 0 (length (f .records .now) / record-length w) in
     let h = held (c .place-records .last .sheet) in
     let p = c .in-Continue-place-records .ensures tt ∙ ap (λ x. placing 0 x es) (c .in-Continue-open .ensures tt .holds) in
-    record
-      { placed = λ _. ap isOk (sym p);
-        sheet = λ spans d.
+    record {
+      placed = λ _. ap isOk (sym p);
+      sheet = λ spans d.
           tree-planted (f .stations) es (f .tree .now) spans h p (held (c .plant .last .self))
           (eqb-false (length (f .tree .now)) 0 (sym (c .if-is-empty .ensures tt)))
           (c .in-Ok .ensures tt .refusal spans (same-tree-decided (f .stations) es (f .tree .now) spans h p d))
-          (c .in-Ok .ensures tt .holds)
-      }
+          (c .in-Ok .ensures tt .holds);
+    }
 
 pub returns-in-Err : need.returns-in-Err
 returns-in-Err g c =
@@ -59,11 +59,11 @@ returns-in-Err g c =
     let es = entries-from w (f .records .now) 0 (length (f .records .now) / record-length w) in
     let h = held (c .place-records .last .sheet) in
     let p = c .in-Continue-place-records .ensures tt ∙ ap (λ x. placing 0 x es) (c .in-Continue-open .ensures tt .holds) in
-    record
-      { placed = λ ok. absurd (false≢true ok);
-        sheet = λ spans d.
+    record {
+      placed = λ ok. absurd (false≢true ok);
+      sheet = λ spans d.
           ap (λ x. Err (FileTree x)) (c .number .ensures)
           ∙ tree-refused (f .stations) es (f .tree .now) spans h p (c .in-Err .why)
-            (eqb-false (length (f .tree .now)) 0 (sym (c .if-is-empty .ensures tt)))
-            (c .in-Err .ensures tt .refusal spans (same-tree-decided (f .stations) es (f .tree .now) spans h p d))
-      }
+          (eqb-false (length (f .tree .now)) 0 (sym (c .if-is-empty .ensures tt)))
+          (c .in-Err .ensures tt .refusal spans (same-tree-decided (f .stations) es (f .tree .now) spans h p d));
+    }

@@ -22,7 +22,7 @@ loop-place-again g c =
     let place = c .loop-place .place in
     let ps = c .loop-place .prices in
     let k = c .record-at-link .result .number in
-    let p = c .record-at-link .result .price in
-    ( written-here w bs place n (omega arith) _ (c .record-at-link .ensures) (map f ps) (map f (set ps k p)) (map-set f ps k p) ∙ c .loop-place .inv .0,
-      λ j d none. getD-set-other ps k j p d (λ e. not-mentioned-at w bs j 0 n none place (omega arith) (e ∙ ap (λ x. x .number) (c .record-at-link .ensures) ∙ ap (λ x. entry-at w bs x .number) (let z : place ≡ 0 + place = omega arith in z))) ∙ c .loop-place .inv .1 j d none
+    let p = c .record-at-link .result .price in (
+      written-here w bs place n (omega arith) _ (c .record-at-link .ensures) (map f ps) (map f (set ps k p)) (map-set f ps k p) ∙ c .loop-place .inv .0,
+      λ j d none. getD-set-other ps k j p d (λ e. not-mentioned-at w bs j 0 n none place (omega arith) (e ∙ ap (λ x. x .number) (c .record-at-link .ensures) ∙ ap (λ x. entry-at w bs x .number) (let z : place ≡ 0 + place = omega arith in z))) ∙ c .loop-place .inv .1 j d none,
     )

@@ -6,8 +6,8 @@ use Rattle.family.proofs.route.Route.new.Needs as need
 
 pub returns : need.returns
 returns c =
-    record
-      { refusal = search needs;
-        size = (refl, refl, refl);
-        members = end-is-route-member (c .args .stations) (c .args .start) (c .args .end) (omega arith) (c .if-start-end .left)
-      }
+    record {
+      refusal = search needs;
+      size = (refl, refl, refl);
+      members = end-is-route-member (c .args .stations) (c .args .start) (c .args .end) (omega arith) (c .if-start-end .left);
+    }
