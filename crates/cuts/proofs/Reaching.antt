@@ -9,9 +9,8 @@ use native.Mathlib.Omega.{arith}
 use Rattle.stations.specs.Sets.{digit, In}
 use Rattle.stations.proofs.Digits.{digit-le-1, digit-not, digit-pow-same, In-below, In-pow, in-or-out}
 use Rattle.digraph.specs.Entering.{EnteredBy}
-use Rattle.digraph.specs.Links.{Slots}
+use Rattle.digraph.specs.Links.{Slots, Proper}
 use Rattle.digraph.specs.Paths.{Path, stay, step}
-use Rattle.cuts.specs.Entries.{Proper}
 use Rattle.cuts.specs.Families.{Unentered}
 use Rattle.cuts.specs.Reaching.{ChosenStep, ReachesTo, ReachedFrom}
 use Rattle.cuts.proofs.EntryCounts.{Enters, enters→ends, ends→enters}

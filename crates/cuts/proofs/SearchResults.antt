@@ -9,9 +9,8 @@ use mathlib.Core.Path.{_≡_}
 use native.Mathlib.Omega.{arith}
 use Rattle.stations.specs.Sets.{digit, In, Part}
 use Rattle.stations.proofs.Digits.{digit-le-1, digit-not, digit-ones-below, In-below, Part→≤, in-or-out}
-use Rattle.digraph.specs.Links.{Slots}
+use Rattle.digraph.specs.Links.{Slots, Proper}
 use Rattle.digraph.specs.Search.{Closed, Next}
-use Rattle.cuts.specs.Entries.{Proper}
 use Rattle.cuts.specs.Families.{Unentered}
 use Rattle.cuts.specs.Reaching.{ChosenStep, ReachesTo, ReachedFrom}
 use Rattle.cuts.proofs.EntryCounts.{enters→ends, ends→enters}

@@ -15,12 +15,12 @@ use Rattle.std.specs.declared.option.Option.{Option}
 use Rattle.std.specs.declared.option.Option.the-variants.{Some, None}
 use Rattle.stations.specs.Sets.{digit, In}
 use Rattle.stations.proofs.Digits.{digit-le-1, digit-not, digit-of-0, In-below, In-pow, digit-pow-same}
-use Rattle.digraph.specs.Links.{Slots, linkAt, Leads}
+use Rattle.digraph.specs.Links.{Slots, linkAt, Leads, Proper}
 use Rattle.digraph.specs.Paths.{Path, stay, step}
 use Rattle.digraph.specs.Trees.{Along, SpanningTree}
 use Rattle.digraph.specs.declared.link.Link.{Link}
 use Rattle.digraph.proofs.OneEach.{one-head}
-use Rattle.cuts.specs.Entries.{Proper, entries}
+use Rattle.cuts.specs.Entries.{entries}
 use Rattle.cuts.specs.Families.{FeedMember}
 use Rattle.cuts.proofs.EntryCounts.{EntersAtPlace, Enters, enters→ends, ends→enters, enters→is-link, enters-station→leads, entries→place, enters→entries}
 use Rattle.cuts.proofs.FeedFamily.{feed-member-station, not-empty→In}

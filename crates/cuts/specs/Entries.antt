@@ -1,16 +1,9 @@
 -- How often the links of a list enter a set of stations.
-use Prim.Native.Nat.{ℕ, _+_, _<_}
+use Prim.Native.Nat.{ℕ, _+_}
 use mathlib.Core.Bool.{cond}
 use mathlib.Core.List.{List, [], _∷_}
-use mathlib.Core.Path.{_≡_}
-use Rattle.std.specs.declared.option.Option.the-variants.{Some}
 use Rattle.digraph.specs.Entering.{entersAt}
-use Rattle.digraph.specs.Links.{Slots, linkAt}
-use Rattle.digraph.specs.declared.link.Link.{Link}
-
--- every link leads from a station to another
-abbrev pub Proper : ℕ → Slots → Type 0
-Proper n slots = (k : ℕ) (l : Link) → linkAt slots k ≡ Some l → (l .tail < n) × (l .head < n) × (l .tail ≡ l .head → ⊥)
+use Rattle.digraph.specs.Links.{Slots}
 
 -- 1 if the link of number k enters the set, and 0 if not
 abbrev pub entry : Slots → ℕ → ℕ → ℕ

@@ -8,9 +8,9 @@ use mathlib.Core.Logic.{_⊎_}
 use mathlib.Core.Path.{_≡_}
 use Rattle.stations.specs.Sets.{In}
 use Rattle.digraph.specs.Entering.{EnteredBy}
-use Rattle.digraph.specs.Links.{Slots}
+use Rattle.digraph.specs.Links.{Slots, Proper}
 use Rattle.digraph.specs.Trees.{SpanningTree}
-use Rattle.cuts.specs.Entries.{Proper, entries}
+use Rattle.cuts.specs.Entries.{entries}
 use Rattle.cuts.specs.Families.{FeedMember, TreeMember, LeastUnentered, GreatestUnentered}
 
 -- the listed links enter every set that has a station but not the base

@@ -2,8 +2,8 @@
 ghost use mathlib.Core.Path.{_≡_};
 ghost use Rattle.digraph.specs.Entering.{enters as enters-set};
 ghost use Rattle.digraph.specs.Steps.{Low};
-use stations::holds;
 use crate::link::Link;
+use stations::holds;
 
 /// Whether what may be a link enters `set`: its head is in the set and its tail is not.
 pub fn enters(link: Option<Link>, set: u64) -> bool

@@ -13,3 +13,11 @@ pub mod Steps
 pub mod Wide
 pub mod Listed
 pub mod Singles
+pub mod StagesExist
+pub mod Listings
+pub mod FeedTrees
+pub mod Deviations
+pub mod CheapestTrees
+pub mod RevisedPrices
+pub mod ListedTrees
+pub mod Dropping

@@ -15,7 +15,7 @@ use Rattle.duality.proofs.Entering.{headAt, head-in}
 use Rattle.duality.proofs.Taking.{Taking, taken, taken-is, heads-differ}
 
 -- as many numbers as map into others, no two to one
-no-more-than : (m r : ℕ) (f : ℕ → ℕ) → ((k : ℕ) → k < m → f k < r) → ((j k : ℕ) → j < m → k < m → f j ≡ f k → j ≡ k) → m ≤ r
+pub no-more-than : (m r : ℕ) (f : ℕ → ℕ) → ((k : ℕ) → k < m → f k < r) → ((j k : ℕ) → j < m → k < m → f j ≡ f k → j ≡ k) → m ≤ r
 no-more-than m r f within once = go (decLt r m)
   where
     go : Dec (r < m) → m ≤ r

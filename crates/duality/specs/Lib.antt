@@ -3,3 +3,4 @@ pub mod Families
 pub mod Costs
 pub mod Stages
 pub mod Theorems
+pub mod Trees

@@ -1,13 +1,15 @@
 -- The stages of a cheapest cover, as what they leave behind: sets with amounts, then links taken for members, then the links kept.
 use Prim.Native.Nat.{ℕ, suc, _≤_, _<_}
+use lib.Dec.{eqb}
 use lib.IntN.{ℤ}
 use lib.ListN.{length}
-use mathlib.Core.Bool.{Bool, true, false, cond}
+use mathlib.Core.Bool.{Bool, true, false, cond, not, _&&_}
 use mathlib.Core.List.{List}
+use mathlib.Core.Logic.{_⊎_}
 use mathlib.Core.Path.{_≡_}
 use Rattle.amount.specs.Parts.{minus, below, nothing}
 use Rattle.digraph.specs.Links.{Slots}
-use Rattle.digraph.specs.Entering.{entersAt}
+use Rattle.digraph.specs.Entering.{entersAt, EnteredBy}
 use Rattle.stations.specs.Sets.{Part}
 use Rattle.duality.specs.Families.{Covering}
 use Rattle.duality.specs.Entries.{entries}
@@ -47,6 +49,25 @@ pub record Taken (width : ℕ) (slots : Slots) (Member : ℕ → Type 0) (p : �
 -- link k is one of the links l t with t < q
 abbrev pub OneOf : ℕ → (ℕ → ℕ) → ℕ → Type 0
 OneOf q l k = (t : ℕ) × (t < q) × (l t ≡ k)
+
+-- a choice of links without one link
+abbrev pub without : (ℕ → Bool) → ℕ → ℕ → Bool
+without choice d k = choice k && not (eqb k d)
+
+-- a member needs the link d of a choice: without it, no link of the choice enters it
+pub record Needed (slots : Slots) (Member : ℕ → Type 0) (choice : ℕ → Bool) (d : ℕ) : Type 0 where
+  pub set : ℕ
+  pub member : Member set
+  pub unentered : EnteredBy slots (without choice d) set → ⊥
+
+-- The third stage: m turns; in turn t link d t is looked at, and kept t are the links kept before it. It is
+-- dropped where the others still enter every member, and stays where a member needs it.
+pub record Dropped (slots : Slots) (Member : ℕ → Type 0) (m : ℕ) (d : ℕ → ℕ) (kept : ℕ → ℕ → Bool) : Type 0 where
+  pub turn : (t : ℕ) → t < m
+      → (((k : ℕ) → kept (suc t) k ≡ without (kept t) (d t) k) × Covering slots Member (kept (suc t)))
+      ⊎ (((k : ℕ) → kept (suc t) k ≡ kept t k) × Needed slots Member (kept t) (d t))
+  -- every link has its turn
+  pub each : (k : ℕ) → kept 0 k ≡ true → (t : ℕ) × (t < m) × (d t ≡ k)
 
 -- The third stage leaves a cheapest cover: its links enter every member, at a cost that nothing that enters every member is below.
 pub record Cheapest (width : ℕ) (slots : Slots) (Member : ℕ → Type 0) (prices : ℕ → List ℤ) (kept : ℕ → Bool) (worth : List ℤ) : Type 0 where

@@ -14,7 +14,7 @@ use Rattle.stations.specs.Sets.{In, Part}
 use Rattle.duality.specs.Entries.{entries}
 use Rattle.duality.specs.Families.{Family, Covering}
 use Rattle.duality.specs.Costs.{summed, repeated, cost-of-counts}
-use Rattle.duality.specs.Stages.{Packed, Taken, OneOf, Cheapest}
+use Rattle.duality.specs.Stages.{Packed, Taken, OneOf, Needed, Dropped, Cheapest}
 
 -- the sets that pass a test
 abbrev pub Passing : (ℕ → Bool) → ℕ → Type 0
@@ -76,3 +76,13 @@ Links-taken-lie-apart =
     → (p : ℕ) (Z : ℕ → ℕ) (y : ℕ → List ℤ) (left : ℕ → ℕ → List ℤ) → Packed width slots (Passing test) p Z y left
     → (q : ℕ) (l M : ℕ → ℕ) → Taken width slots (Passing test) p left q l M
     → TakenApart slots p Z q l
+
+-- what the third stage keeps enters every member, if what it began with does, and no link kept can be spared
+pub record NoneToSpare (slots : Slots) (Member : ℕ → Type 0) (kept : ℕ → Bool) : Type 0 where
+  pub covers : Covering slots Member kept
+  pub needed : (k : ℕ) → kept k ≡ true → Needed slots Member kept k
+
+abbrev pub No-kept-link-can-be-spared : Type 0
+No-kept-link-can-be-spared =
+    (slots : Slots) (test : ℕ → Bool) (m : ℕ) (d : ℕ → ℕ) (kept : ℕ → ℕ → Bool)
+    → Dropped slots (Passing test) m d kept → Covering slots (Passing test) (kept 0) → NoneToSpare slots (Passing test) (kept m)
