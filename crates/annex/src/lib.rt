@@ -1,4 +1,6 @@
 //! Text written into a caller's buffer of bytes.
+#![tactic(auto)]
+
 pub mod laws;
 pub mod number;
 pub mod place;

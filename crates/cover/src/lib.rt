@@ -1,4 +1,6 @@
 //! Covers: the cheapest links that enter every member of a family, found in three stages.
+#![tactic(auto)]
+
 pub mod call;
 pub mod checks;
 pub mod keeping;

@@ -1,4 +1,6 @@
 //! Sets of stations, the links that enter them, and what spanning trees have to do with both: theorems, each on a function that does nothing.
+#![tactic(auto)]
+
 ghost use Rattle.cuts.specs.Theorems.{FeedQuestionsHaveAnswers};
 ghost use Rattle.cuts.specs.Theorems.{LinksThatEnterEverySetAreTrees};
 ghost use Rattle.cuts.specs.Theorems.{TreeFamiliesHaveTheirLaws};

@@ -1,4 +1,6 @@
 //! Tests of the families through their public calls.
+#![tactic(auto)]
+
 #[cfg(test)]
 mod choosing;
 #[cfg(test)]

@@ -1,5 +1,7 @@
 //! Refusals: why a call turned back, each with the number that contracts, documents and the program's
 //! output give it. Every call of this repository that can turn back answers with one of these.
+#![tactic(auto)]
+
 ghost use Rattle.std.specs.Prelude.{◌≡◌};
 ghost use Rattle.refusal.specs.Numbers.{number_of};
 

@@ -1,4 +1,6 @@
 //! The sheet: stations, links by number, and the tree that a fleet's masts are aimed along.
+#![tactic(auto)]
+
 ghost use Rattle.std.specs.Prelude.{◌≤◌};
 ghost use Rattle.digraph.specs.Links.{Proper};
 ghost use Rattle.sheet.specs.Keeps.{Spans};

@@ -1,4 +1,6 @@
 //! Tests of loading: sheet files written out byte for byte, and what loading each of them gives.
+#![tactic(auto)]
+
 #[cfg(test)]
 mod files;
 #[cfg(test)]

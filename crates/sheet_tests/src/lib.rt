@@ -1,4 +1,6 @@
 //! Tests of a sheet through its public calls.
+#![tactic(auto)]
+
 #[cfg(test)]
 mod adding;
 #[cfg(test)]

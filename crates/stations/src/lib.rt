@@ -1,4 +1,6 @@
 //! Sets of stations, as masks: bit `s` of a `u64` stands for station `s`.
+#![tactic(auto)]
+
 ghost use Rattle.std.specs.Prelude.{◌≡◌, ◌<◌};
 ghost use Rattle.stations.specs.Sets.{has};
 

@@ -1,3 +1,5 @@
 //! The family of a sheet's installed tree.
+#![tactic(auto)]
+
 pub mod meanings;
 pub mod tree;

@@ -1,4 +1,6 @@
 //! Tests of the tree family through its public calls.
+#![tactic(auto)]
+
 #[cfg(test)]
 mod branches;
 #[cfg(test)]

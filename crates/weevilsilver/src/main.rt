@@ -1,5 +1,7 @@
 //! Reads a sheet file from standard input, loads it and prints the sheet: a line for each link, by
 //! rising number, and one for the installed tree; or the line of the refusal.
+#![tactic(auto)]
+
 use crate::shown::{Shown, print_sheet};
 use amount::cents::Cents;
 use amount::cents_minutes::CentsMinutes;
