@@ -43,17 +43,28 @@ def line_turned(line, names, comment):
     return turned(code, names) + quoted(rest, names)
 
 
+def borrowed(text, own):
+    """What a file takes from libraries outside the repository: those names are not ours to turn."""
+    found = set()
+    for module, names in re.findall(r"\buse ([\w.]+)\.\{([^}]*)\}", text):
+        parts = module.split(".")
+        if parts[0] != "Rattle" or parts[1] not in own:
+            found |= {name.split(" as ")[0].strip() for name in names.split(",")}
+    return found
+
+
 def main(top):
     everywhere, alone = table(os.path.join(os.path.dirname(os.path.realpath(__file__)), "respellings.txt"))
+    own = set(os.listdir(os.path.join(top, "crates")))
     changed = 0
     for end, comment in ((".antt", r"(^|\s)--(\s|$)"), (".rt", r"//"), (".edit", r"//")):
         for path in sorted(glob.glob(os.path.join(top, "crates/**/*" + end), recursive=True)):
             here = os.path.relpath(path, top)
             if "/out/" in here:
                 continue
-            names = everywhere | alone.get(here, {})
             with open(path, encoding="utf-8") as f:
                 old = f.read()
+            names = {o: n for o, n in (everywhere | alone.get(here, {})).items() if o not in borrowed(old, own)}
             new = "".join(line_turned(line, names, comment) for line in old.splitlines(keepends=True))
             if new != old:
                 with open(path, "w", encoding="utf-8") as f:

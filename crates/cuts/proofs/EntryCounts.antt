@@ -4,7 +4,7 @@ use Rattle.std.proofs.Common.{◌≡◌, ℕ, zero, suc, ◌+◌, ◌^◌, ◌<�
 use lib.Bits.{bit_and, bit_or}
 use lib.ListN.{get_or-eq_default}
 use native.Mathlib.Decide.{dec_lt}
-use Rattle.std.proofs.lemmas.Bool.{false≢true, both_ways, not_true, and_parts, cases_Bool, cases_order, cond-true, cond-false, cond_both}
+use Rattle.std.proofs.lemmas.Bool.{false≢true, both_ways, not-true, and_parts, cases_Bool, cases_order, cond-true, cond-false, cond_both}
 use Rattle.stations.specs.Sets.{digit, In, has}
 use Rattle.stations.proofs.Digits.{In-pow, digit_le_1, digit_and, digit_or, has→In, In→has, lacks→out, out→lacks, in_or_out}
 use Rattle.digraph.specs.Entering.{enters, enters_at, EnteredBy}
@@ -30,7 +30,7 @@ enters→ends slots k set = go (link_at slots k) refl
     go None e h = absurd (false≢true h)
     go (Some l) e h =
         let ends = and_parts (has set l.head) (not (has set l.tail)) h in
-        record { tail = l.tail; head = l.head; leads = e; head_in = has→In set l.head ends.0; tail_out = lacks→out set l.tail (not_true (has set l.tail) ends.1) }
+        record { tail = l.tail; head = l.head; leads = e; head_in = has→In set l.head ends.0; tail_out = lacks→out set l.tail (not-true (has set l.tail) ends.1) }
 
 pub ends→enters : (slots : Slots) (k u v set : ℕ) → Leads slots k u v → In set v → digit set u ≡ 0 → enters_at slots k set ≡ true
 ends→enters slots k u v set leads h o = rw (leads, In→has set v h, out→lacks set u o) refl

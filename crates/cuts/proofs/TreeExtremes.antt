@@ -3,7 +3,7 @@
 use Rattle.std.proofs.Common.{◌≡◌, ℕ, zero, suc, ◌-◌, ◌^◌, ◌<◌, ◌≤◌, Bool, true, not, ◌&&◌, eqb, ◌⊎◌, List, [], ◌∷◌, length, get_or, sym, refl, ap, ◌∙◌, subst, inl, inr, arith, pow_pos}
 use lib.Count.{ones}
 use native.Mathlib.Decide.{ℕ_discrete}
-use Rattle.std.proofs.lemmas.Bool.{false≢true, eqb-true, eqb-false, eq-eqb, ne_eqb, not_true, and_parts, or_cases, or_left, or_right}
+use Rattle.std.proofs.lemmas.Bool.{false≢true, eqb-true, eqb-false, eq-eqb, ne_eqb, not-true, and_parts, or_cases, or_left, or_right}
 use Rattle.stations.specs.Sets.{digit, In, Part}
 use Rattle.stations.proofs.Digits.{digit_not, In-below, Part→≤, Part-antisym, ones_mono, ones_full}
 use Rattle.digraph.specs.Counting.{OneIntoEach}
@@ -56,7 +56,7 @@ besides→either list f choice k e = go (or_cases (choice k) (listed list k && n
     go (inr b) =
         let is = and_parts (listed list k) (not (eqb k f)) b in
         let t = listed→place list k is.0 in
-        inr (t.0, t.1, t.2, eqb-false k f (not_true (eqb k f) is.1))
+        inr (t.0, t.1, t.2, eqb-false k f (not-true (eqb k f) is.1))
 
 -- ---- members that no chosen link enters
 

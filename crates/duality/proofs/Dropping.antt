@@ -1,7 +1,7 @@
 -- What the third stage keeps still enters every member, and none of it can be spared: a link that could
 -- be spared at the end could be spared when its turn came, since more was kept then.
 use Rattle.std.proofs.Common.{◌≡◌, ℕ, zero, suc, ◌+◌, ◌-◌, ◌<◌, ◌≤◌, Bool, true, false, not, ◌&&◌, eqb, ◌⊎◌, sym, refl, ap, ◌∙◌, subst, ⊎_elim, arith}
-use Rattle.std.proofs.lemmas.Bool.{and_parts, and_from, both_ways, eq-eqb, not_true}
+use Rattle.std.proofs.lemmas.Bool.{and_parts, and_from, both_ways, eq-eqb, not-true}
 use Rattle.digraph.specs.Entering.{EnteredBy}
 use Rattle.digraph.specs.Links.{Slots}
 use Rattle.duality.specs.Families.{Covering}
@@ -14,7 +14,7 @@ entered_by_more slots few many set more (k, chosen, enters) = (k, more k chosen,
 
 -- a link that is left out is not among the rest
 left_out : (choice : ℕ → Bool) (k : ℕ) → without choice k k ≡ true → ⊥
-left_out choice k e = both_ways (eqb k k) (not_true (eqb k k) (and_parts (choice k) (not (eqb k k)) e).1) (eq-eqb k k refl)
+left_out choice k e = both_ways (eqb k k) (not-true (eqb k k) (and_parts (choice k) (not (eqb k k)) e).1) (eq-eqb k k refl)
 
 module _ (slots : Slots) (Member : ℕ → Type 0) (m : ℕ) (d : ℕ → ℕ) (kept : ℕ → ℕ → Bool) (stage : Dropped slots Member m d kept) where
   -- nothing comes back

@@ -7,7 +7,7 @@ use Rattle.std.specs.List.{range_with_len}
 use Rattle.std.specs.Option.{option_map}
 use Rattle.std.proofs.lemmas.List.FromFn.{get_or-map-range_with_len, length-map-range_with_len}
 use Rattle.std.proofs.lemmas.List.{get_or_past}
-use Rattle.std.proofs.lemmas.Bool.{and_parts, and_from, not_true, not_from_false, both_ways, cases_Bool, cases_lt}
+use Rattle.std.proofs.lemmas.Bool.{and_parts, and_from, not-true, not_from_false, both_ways, cases_Bool, cases_lt}
 use Rattle.stations.specs.Sets.{In, Part, has}
 use Rattle.stations.proofs.Digits.{has→In, In→has}
 use Rattle.digraph.specs.Entering.{marked, enters, enters_at, Entered}
@@ -95,7 +95,7 @@ module _ (n : ℕ) (slots : Slots) (proper : Proper n slots) (few : n ≤ 40) (s
       go (Some l) q e =
           let both = and_parts (has z l.head) (not (has z l.tail)) e in
           let inside = closed l.head l.tail (has→In z l.head both.0) (way_is_next Back l.head l.tail (k, b, q)) in
-          both_ways (has z l.tail) (not_true (has z l.tail) both.1) (In→has z l.tail inside)
+          both_ways (has z l.tail) (not-true (has z l.tail) both.1) (In→has z l.tail inside)
 
   pub unentered_is_closed : (z : ℕ) → Unentered slots marks z → Closed (marked_steps Back slots marks) z
   unentered_is_closed z out u v h next = ⊎_elim (has→In z v) (λ lacks. absurd (out (entering lacks))) (cases_Bool (has z v))
@@ -113,7 +113,7 @@ module _ (n : ℕ) (slots : Slots) (proper : Proper n slots) (few : n ≤ 40) (s
       go None q e = both_ways false refl e
       go (Some l) q e =
           let both = and_parts (has rest l.head) (not (has rest l.tail)) e in
-          let out : has rest l.tail ≡ false = not_true (has rest l.tail) both.1 in
+          let out : has rest l.tail ≡ false = not-true (has rest l.tail) both.1 in
           let tail_in : has z l.tail ≡ true = ⊎_elim (λ y. y) (λ lacks. absurd (both_ways (has rest l.tail) out (In→has rest l.tail (all l.tail (proper k l q).0 lacks)))) (cases_Bool (has z l.tail)) in
           let head_in = closed l.tail l.head (has→In z l.tail tail_in) (way_is_next Forth l.tail l.head (k, b, q)) in
           both_ways (has z l.head) (apart l.head (has→In rest l.head both.0)) (In→has z l.head head_in)

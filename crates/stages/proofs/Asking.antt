@@ -2,7 +2,7 @@
 -- Each part is read off what is known; only the prices take an induction, over the links' places.
 use Rattle.std.proofs.Common.{◌≡◌, ℕ, zero, suc, ◌^◌, ◌<◌, ◌≤◌, Bool, true, false, not, ◌&&◌, ◌||◌, ◌⊎◌, List, [], ◌∷◌, map, length, get_or, replicate, ℤ, is_some, Some, None, Option, sym, refl, ap, ◌∙◌, subst, inl, inr, ⊎_elim, arith}
 use lib.Bits.{bit_and, bit_or}
-use Rattle.std.proofs.lemmas.Bool.{both_ways, and_parts, or_cases, not_true}
+use Rattle.std.proofs.lemmas.Bool.{both_ways, and_parts, or_cases, not-true}
 use Rattle.amount.specs.Parts.{legal}
 use Rattle.digraph.specs.Entering.{Entered}
 use Rattle.digraph.specs.Links.{Slots, link_at}
@@ -31,7 +31,7 @@ pub record LawfulFamily (size : ℕ) (Member : ℕ → Type 0) (small large : He
 -- where every link is priced, each price is legal
 legal_here : (slots : Slots) (ps : List (List ℤ)) (k : ℕ) → priced_at slots ps k ≡ true → is_link slots k ≡ true → legal (get_or ps k []) ≡ true
 legal_here slots ps k e link =
-    ⊎_elim (λ none. absurd (both_ways (is_link slots k) (not_true (is_link slots k) none) link)) (λ l. l) (or_cases (not (is_link slots k)) (legal (get_or ps k [])) e)
+    ⊎_elim (λ none. absurd (both_ways (is_link slots k) (not-true (is_link slots k) none) link)) (λ l. l) (or_cases (not (is_link slots k)) (legal (get_or ps k [])) e)
 
 pub priced→legal : (slots : Slots) (ps : List (List ℤ)) (k : ℕ) → priced slots ps ≡ true → k < length ps → is_link slots k ≡ true → legal (get_or ps k []) ≡ true
 priced→legal [] ps k e h link = absurd (both_ways false refl link)

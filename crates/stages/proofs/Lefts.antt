@@ -5,7 +5,7 @@ use lib.Signed.{le_z}
 use Rattle.std.proofs.lemmas.List.FromFn.{get_or-map-range_with_len, length-map-range_with_len}
 use Rattle.std.proofs.lemmas.List.{get_or_past}
 use Rattle.std.proofs.lemmas.Int.{ints}
-use Rattle.std.proofs.lemmas.Bool.{both_ways, cases_lt, cases_Bool, and_parts, and_from, and_left, not_true, not_from_false}
+use Rattle.std.proofs.lemmas.Bool.{both_ways, cases_lt, cases_Bool, and_parts, and_from, and_left, not-true, not_from_false}
 use Rattle.amount.specs.Parts.{minus, below, nothing, within, legal, Fitting}
 use Rattle.amount.proofs.Group.{length_nothing, length_minus, minus_below_nothing}
 use Rattle.amount.proofs.Order.{not_below_itself, equal_if_neither_below}
@@ -94,7 +94,7 @@ module _ (n : ℕ) (a : Asked) (Member : ℕ → Type 0) (L : Lawful n a Member)
       go true e =
           let wide = L.price_wide k e in
           let p = get_or a.column k [] in
-          (wide, subst (λ w. below p (nothing w) ≡ false) wide (not_true (below p (nothing (length p))) (and_parts (not (below p (nothing (length p)))) (within 100000 p) (L.price_legal k e)).0))
+          (wide, subst (λ w. below p (nothing w) ≡ false) wide (not-true (below p (nothing (length p))) (and_parts (not (below p (nothing (length p)))) (within 100000 p) (L.price_legal k e)).0))
 
   lowered_good : (left : Left) (set : ℕ) → Good left → Good (lowered slots left set (amount_of slots left set))
   lowered_good left set good k h = subst (λ (x : List ℤ). (length x ≡ width) × (below x (nothing width) ≡ false)) (sym (left_of_lowered slots left set y k h)) (go (enters_at slots k set) refl)
@@ -130,7 +130,7 @@ module _ (n : ℕ) (a : Asked) (Member : ℕ → Type 0) (L : Lawful n a Member)
   used_up→nothing i k e =
       let both = and_parts (is_link slots k) (not (below (nothing width) (left_of (left_after a i) k))) e in
       let h : k < 200 = omega (arith, link_is_placed slots k both.0, L.sized) in
-      equal_if_neither_below (left_of (left_after a i) k) (nothing width) (left_good i k h).1 (not_true (below (nothing width) (left_of (left_after a i) k)) both.1)
+      equal_if_neither_below (left_of (left_after a i) k) (nothing width) (left_good i k h).1 (not-true (below (nothing width) (left_of (left_after a i) k)) both.1)
 
   pub nothing→used_up : (i k set : ℕ) → enters_at slots k set ≡ true → left_of (left_after a i) k ≡ nothing width → used_up a (left_after a i) k ≡ true
   nothing→used_up i k set e z =
