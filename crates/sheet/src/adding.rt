@@ -21,7 +21,7 @@ impl Sheet {
         head: u8,
         price: T,
     ) -> Result<(), Refusal>
-        ensures refusal { result_err result ≡ first (add_checks (held self.old) (map parts prices.old) number tail head (parts price)) }
+        ensures refusal { result_err result ≡ first (add_checks (held self.old) (map T.parts prices.old) number tail head (T.parts price)) }
         ensures kept { is_ok result ≡ false → self.new ≡ self.old }
         ensures holds { held self.new ≡ (if is_ok result then with_link (held self.old) number (Some (record { tail = tail; head = head })) else held self.old) }
         ensures column { prices.new ≡ (if is_ok result then slice_set prices.old number price else prices.old) }
@@ -41,7 +41,7 @@ impl Sheet {
         head: u8,
         price: T,
     ) -> Result<(), Refusal>
-        ensures refusal { result_err result ≡ first (link_checks (held self.old) number tail head (parts price)) }
+        ensures refusal { result_err result ≡ first (link_checks (held self.old) number tail head (T.parts price)) }
         ensures kept { is_ok result ≡ false → self.new ≡ self.old }
         ensures holds { held self.new ≡ (if is_ok result then with_link (held self.old) number (Some (record { tail = tail; head = head })) else held self.old) }
     {

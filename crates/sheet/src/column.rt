@@ -14,7 +14,7 @@ impl Sheet {
     /// The checks that every call but open begins with: the column has a place for each link number,
     /// and the price of every link is legal.
     pub fn check_column<T: Amount>(&self, prices: &[T]) -> Result<(), Refusal>
-        ensures { result_err result ≡ first (column_checks (held self.now) (map parts prices.now)) }
+        ensures { result_err result ≡ first (column_checks (held self.now) (map T.parts prices.now)) }
     {
         if prices.len() != LINKS {
             return Err(Refusal::ColumnSize);
@@ -29,7 +29,7 @@ impl Sheet {
 /// Whether the price of every link is legal.
 fn are_priced<T: Amount>(links: &LinkTable, prices: &[T]) -> bool
     requires { length prices.now ≡ 200 }
-    ensures { result ≡ priced links.now.slots (map parts prices.now) }
+    ensures { result ≡ priced links.now.slots (map T.parts prices.now) }
 {
     for k in 0..LINKS {
         if !is_priced(links, prices, k) {
@@ -43,7 +43,7 @@ fn are_priced<T: Amount>(links: &LinkTable, prices: &[T]) -> bool
 fn is_priced<T: Amount>(links: &LinkTable, prices: &[T], k: usize) -> bool
     requires sized { length prices.now ≡ 200 }
     requires within { k < 200 }
-    ensures { result ≡ priced_at links.now.slots (map parts prices.now) k }
+    ensures { result ≡ priced_at links.now.slots (map T.parts prices.now) k }
 {
     match links.get(k) {
         None => true,

@@ -15,7 +15,7 @@ use refusal::Refusal;
 impl Sheet {
     /// Installs the tree of a list of link numbers, in place of any earlier one.
     pub fn install<T: Amount>(&mut self, prices: &[T], list: &[u16]) -> Result<(), Refusal>
-        ensures refusal { (spanning : Bool) → Decides spanning (SpanningTree (held self.old).stations (held self.old).links list.now) → result_err result ≡ first (install_checks (held self.old) (map parts prices.now) list.now spanning) }
+        ensures refusal { (spanning : Bool) → Decides spanning (SpanningTree (held self.old).stations (held self.old).links list.now) → result_err result ≡ first (install_checks (held self.old) (map T.parts prices.now) list.now spanning) }
         ensures kept { is_ok result ≡ false → self.new ≡ self.old }
         ensures holds { held self.new ≡ (if is_ok result then with_tree (held self.old) list.now else held self.old) }
     {
@@ -26,9 +26,9 @@ impl Sheet {
     /// Installs the tree of a list of link numbers, wherever they lie: the column's checks aside, this
     /// is what `install` does.
     pub fn plant<L: Numbers>(&mut self, list: &L) -> Result<(), Refusal>
-        ensures refusal { (spanning : Bool) → Decides spanning (SpanningTree (held self.old).stations (held self.old).links (numbers list.now)) → result_err result ≡ first (tree_checks (held self.old) (numbers list.now) spanning) }
+        ensures refusal { (spanning : Bool) → Decides spanning (SpanningTree (held self.old).stations (held self.old).links (L.numbers list.now)) → result_err result ≡ first (tree_checks (held self.old) (L.numbers list.now) spanning) }
         ensures kept { is_ok result ≡ false → self.new ≡ self.old }
-        ensures holds { held self.new ≡ (if is_ok result then with_tree (held self.old) (numbers list.now) else held self.old) }
+        ensures holds { held self.new ≡ (if is_ok result then with_tree (held self.old) (L.numbers list.now) else held self.old) }
     {
         if list.count() != self.stations as usize - 1 {
             return Err(Refusal::TreeLength);

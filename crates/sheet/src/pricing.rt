@@ -12,7 +12,7 @@ use refusal::Refusal;
 impl Sheet {
     /// Puts another price into the column for a link of the sheet.
     pub fn reprice<T: Amount>(&self, prices: &mut [T], number: u16, price: T) -> Result<(), Refusal>
-        ensures refusal { result_err result ≡ first (reprice_checks (held self.now) (map parts prices.old) number (parts price)) }
+        ensures refusal { result_err result ≡ first (reprice_checks (held self.now) (map T.parts prices.old) number (T.parts price)) }
         ensures column { prices.new ≡ (if is_ok result then slice_set prices.old number price else prices.old) }
     {
         self.check_column(prices)?;

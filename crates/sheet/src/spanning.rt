@@ -14,7 +14,7 @@ use digraph::steps::add_step;
 
 /// Whether every number of the list names a link of the sheet.
 pub fn names_links<L: Numbers>(sheet: &Sheet, list: &L) -> bool
-    ensures { result ≡ all_links (held sheet.now).links (numbers list.now) }
+    ensures { result ≡ all_links (held sheet.now).links (L.numbers list.now) }
 {
     for i in 0..list.count() {
         if sheet.link(list.at(i)).is_none() {
@@ -26,9 +26,9 @@ pub fn names_links<L: Numbers>(sheet: &Sheet, list: &L) -> bool
 
 /// Whether a list of links of the sheet, one fewer than the stations, is a spanning tree.
 pub fn spans<L: Numbers>(sheet: &Sheet, list: &L) -> bool
-    requires count { length (numbers list.now) + 1 ≡ (held sheet.now).stations }
-    requires named { all_links (held sheet.now).links (numbers list.now) ≡ true }
-    ensures { Decides result (SpanningTree (held sheet.now).stations (held sheet.now).links (numbers list.now)) }
+    requires count { length (L.numbers list.now) + 1 ≡ (held sheet.now).stations }
+    requires named { all_links (held sheet.now).links (L.numbers list.now) ≡ true }
+    ensures { Decides result (SpanningTree (held sheet.now).stations (held sheet.now).links (L.numbers list.now)) }
 {
     let next = steps_along(sheet, list);
     reached(&next, 0) == (1 << sheet.stations()) - 1
@@ -36,7 +36,7 @@ pub fn spans<L: Numbers>(sheet: &Sheet, list: &L) -> bool
 
 /// For each station the mask of those that one link of the list leads to.
 fn steps_along<L: Numbers>(sheet: &Sheet, list: &L) -> [u64; STATIONS]
-    ensures { result ≡ steps_from (replicate 40 0) (map (link_at (held sheet.now).links) (numbers list.now)) }
+    ensures { result ≡ steps_from (replicate 40 0) (map (link_at (held sheet.now).links) (L.numbers list.now)) }
 {
     let mut next = [0; STATIONS];
     for i in 0..list.count() {
@@ -47,8 +47,8 @@ fn steps_along<L: Numbers>(sheet: &Sheet, list: &L) -> [u64; STATIONS]
 
 /// The list as a tree to keep.
 pub fn tree_of<L: Numbers>(list: &L) -> Tree
-    requires { length (numbers list.now) ≤ 39 }
-    ensures { take (length (numbers list.now)) result.numbers ≡ numbers list.now }
+    requires { length (L.numbers list.now) ≤ 39 }
+    ensures { take (length (L.numbers list.now)) result.numbers ≡ L.numbers list.now }
 {
     let mut tree = [0; TREE_LINKS];
     for i in 0..list.count() {

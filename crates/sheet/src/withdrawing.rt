@@ -12,7 +12,7 @@ use refusal::Refusal;
 impl Sheet {
     /// Takes a link off the sheet: its number is free again, and the column stays as it is.
     pub fn withdraw<T: Amount>(&mut self, prices: &[T], number: u16) -> Result<(), Refusal>
-        ensures refusal { result_err result ≡ first (withdraw_checks (held self.old) (map parts prices.now) number) }
+        ensures refusal { result_err result ≡ first (withdraw_checks (held self.old) (map T.parts prices.now) number) }
         ensures kept { is_ok result ≡ false → self.new ≡ self.old }
         ensures holds { held self.new ≡ (if is_ok result then with_link (held self.old) number None else held self.old) }
     {

@@ -14,5 +14,5 @@ pub returns : goal.returns
 returns c =
     let back = to_z-of_z w64 c.args.z c.ranges.z in
     let below : c.args.z <ℤ pos 0 = omega (arith, ints) in
-    rw (signed_below_zero c.args.z below, ← (simp back at c.unsigned-abs-2.ensures.value))
-    (put_then c.put-byte-digits.ensures c.put-number-2.ensures)
+    rw (signed_below_zero c.args.z below, ← (simp back at c.unsigned_abs-2.ensures.value))
+    (put_then c.put_byte-digits.ensures c.put_number-2.ensures)

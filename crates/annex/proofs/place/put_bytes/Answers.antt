@@ -10,6 +10,6 @@ returns c =
     let t = c.args.text.now in
     let bs = c.args.bytes.now in
     record {
-      bytes = put_mid-paste c.args.at _ t _ bs (length bs) c.copy-from-slice.ensures.after (omega arith) refl ∙ paste_all t c.args.at bs (length bs) refl;
+      bytes = put_mid-paste c.args.at _ t _ bs (length bs) c.copy_from_slice.ensures.after (omega arith) refl ∙ paste_all t c.args.at bs (length bs) refl;
       next = refl;
     }

@@ -7,21 +7,21 @@ use Rattle.annex.proofs.refusal_line.write_refusal.Goals as goal
 use Rattle.annex.specs.Lines.{line_of_refusal}
 use Rattle.refusal.specs.Numbers.{number_of, carried_by}
 
-pub put-spaced-carried-requires : goal.put-spaced-carried-requires
-put-spaced-carried-requires c = omega (arith, length_spaced_le c.from.result c.from.type-inv)
+pub put_spaced-carried-requires : goal.put_spaced-carried-requires
+put_spaced-carried-requires c = omega (arith, length_spaced_le c.from.result c.from.type_inv)
 
-pub put-carried-end-requires : goal.put-carried-end-requires
-put-carried-end-requires c = omega (arith, length_spaced_le c.from.result c.from.type-inv)
+pub put_carried-end-requires : goal.put_carried-end-requires
+put_carried-end-requires c = omega (arith, length_spaced_le c.from.result c.from.type_inv)
 
-pub put-byte-requires : goal.put-byte-requires
-put-byte-requires c = omega (arith, length_spaced_le c.from.result c.from.type-inv)
+pub put_byte-requires : goal.put_byte-requires
+put_byte-requires c = omega (arith, length_spaced_le c.from.result c.from.type_inv)
 
 pub returns : goal.returns
 returns c =
     let e = c.args.refusal.now in
     let t = c.args.text.now in
     let enough : 32768 ≤ length t = omega arith in
-    let number = put_spaced_is (c.from.ensures ∙ c.number.ensures) c.put-spaced-carried.ensures in
-    let numbers = put_spaced_then (number_of e ∷ []) (carried_by e) number c.put-carried-end.ensures.bytes in
-    let line = put_at_start {line = line_of_refusal e} (put_then c.put-bytes-number.ensures (put_then numbers c.put-byte.ensures)) in
+    let number = put_spaced_is (c.from.ensures ∙ c.number.ensures) c.put_spaced-carried.ensures in
+    let numbers = put_spaced_then (number_of e ∷ []) (carried_by e) number c.put_carried-end.ensures.bytes in
+    let line = put_at_start {line = line_of_refusal e} (put_then c.put_bytes-number.ensures (put_then numbers c.put_byte.ensures)) in
     rw (le-ltb (length t) 32768 enough) (record { refuses = refl; answers = ap Some line.1; leaves = line.0 })

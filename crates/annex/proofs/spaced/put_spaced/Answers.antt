@@ -5,4 +5,4 @@ use Rattle.annex.proofs.Puts.{put_then}
 use Rattle.annex.proofs.spaced.put_spaced.Goals as goal
 
 pub returns : goal.returns
-returns c = rw (append-nil (decimal c.args.n)) (put_then c.put-byte-number.ensures c.put-number.ensures)
+returns c = rw (append-nil (decimal c.args.n)) (put_then c.put_byte-number.ensures c.put_number.ensures)

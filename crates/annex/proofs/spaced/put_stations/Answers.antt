@@ -9,8 +9,8 @@ use Rattle.stations.specs.Sets.{rising_from}
 pub loop-station-init : goal.loop-station-init
 loop-station-init c = put_none c.args.text.now c.args.at
 
-pub put-held-behind-requires : goal.put-held-behind-requires
-put-held-behind-requires c = (
+pub put_held-behind-requires : goal.put_held-behind-requires
+put_held-behind-requires c = (
   c.loop-station-test.true,
   room_for_next c.args.set c.loop-station.station 64 c.args.at c.loop-station.behind (length c.loop-station.text)
       c.loop-station-test.true (rw c.loop-station.auto.text c.requires) c.loop-station.invariant.next,
@@ -19,7 +19,7 @@ put-held-behind-requires c = (
 pub loop-station-preserved : goal.loop-station-preserved
 loop-station-preserved c =
     rw (rising_append c.args.set 0 c.loop-station.station 1, zero-add c.loop-station.station)
-    (put_spaced_then (rising_from c.args.set 0 c.loop-station.station) (rising_from c.args.set c.loop-station.station 1) c.loop-station.invariant c.put-held-behind.ensures)
+    (put_spaced_then (rising_from c.args.set 0 c.loop-station.station) (rising_from c.args.set c.loop-station.station 1) c.loop-station.invariant c.put_held-behind.ensures)
 
 pub returns : goal.returns
 returns c =

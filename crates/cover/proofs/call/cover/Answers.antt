@@ -6,15 +6,15 @@ use Rattle.sheet.specs.Held.{held}
 use Rattle.cover.specs.Ready.{family_checks}
 use Rattle.cover.proofs.call.cover.Goals as goal
 
-pub returns-in-err-check-column : goal.returns-in-err-check-column
-returns-in-err-check-column g c =
+pub returns-in_err-check_column : goal.returns-in_err-check_column
+returns-in_err-check_column g c =
     let h = held c.args.sheet.now in
     let f = c.args.family.now in
     let ps = map g.T.Amount.parts c.args.prices.now in
-    let p = err_from_is_err_and c.from-residual.result c.from-residual.ensures.1 in
+    let p = err_from_is_err_and c.from_residual.result c.from_residual.ensures.1 in
     rw (p.1, p.2)
     (record {
-      refusal = sym (first_of_front (column_checks h ps) (family_checks h (g.F.Family.small f h) (g.F.Family.size f) _) _ (sym c.in-err-check-column.ensures));
+      refusal = sym (first_of_front (column_checks h ps) (family_checks h (g.F.Family.small f h) (g.F.Family.size f) _) _ (sym c.in_err-check_column.ensures));
       untouched = λ _. refl;
       filled = tt;
       small = tt;

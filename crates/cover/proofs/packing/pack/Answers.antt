@@ -37,8 +37,8 @@ lawful : (g : given.Over) (s : Sheet) (prices : List g.row.T.Denot) (f : g.row.F
 lawful g s prices f ready =
     ready_is_lawful g.T.Amount.parts g.T.Amount.width g.met.T.Amount.as_wide s prices (g.F.Family.size f) (g.F.Family.member f) (g.F.Family.small f) (g.F.Family.large f) (laws g f) ready
 
-pub copy-prices-requires : goal.copy-prices-requires
-copy-prices-requires g c =
+pub copy_prices-requires : goal.copy_prices-requires
+copy_prices-requires g c =
     record {
       prices = sym (length-map c.args.prices.now g.T.Amount.parts) ∙ c.requires.ready.column_sized;
       left = (room_lengths (room c.args.left.now c.args.sets.now c.args.amounts.now) c.requires.memory).0;
@@ -51,15 +51,15 @@ loop-set-init g c =
     let prices = c.args.prices.now in
     let f = c.args.family.now in
     let lengths = room_lengths (room c.args.left.now c.args.sets.now c.args.amounts.now) c.requires.memory in
-    progress_at_first parts s.stations (asked g s prices f) (g.F.Family.member f) (lawful g s prices f c.requires.ready) prices c.copy-prices.new.left refl
-    (c.copy-prices.auto.left ∙ lengths.0 ∙ sym (sym (length-map prices parts) ∙ c.requires.ready.column_sized))
-    (λ k d link. c.copy-prices.ensures k d ∙ ap (λ b. cond b (get_or prices k d) (get_or c.args.left.now k d)) link)
-    c.args.sets.now c.args.amounts.now c.used-up-at-first-used.result.marks (take c.used-up-at-first-used.result.count c.used-up-at-first-used.result.order)
-    c.used-up-at-first-used.ensures.marks c.used-up-at-first-used.ensures.order
+    progress_at_first parts s.stations (asked g s prices f) (g.F.Family.member f) (lawful g s prices f c.requires.ready) prices c.copy_prices.new.left refl
+    (c.copy_prices.auto.left ∙ lengths.0 ∙ sym (sym (length-map prices parts) ∙ c.requires.ready.column_sized))
+    (λ k d link. c.copy_prices.ensures k d ∙ ap (λ b. cond b (get_or prices k d) (get_or c.args.left.now k d)) link)
+    c.args.sets.now c.args.amounts.now c.used_up_at_first-used.result.marks (take c.used_up_at_first-used.result.count c.used_up_at_first-used.result.order)
+    c.used_up_at_first-used.ensures.marks c.used_up_at_first-used.ensures.order
 
 pub tightest-requires : goal.tightest-requires
 tightest-requires g c =
-    c.loop-set.auto.left ∙ c.copy-prices.auto.left ∙ (room_lengths (room c.args.left.now c.args.sets.now c.args.amounts.now) c.requires.memory).0
+    c.loop-set.auto.left ∙ c.copy_prices.auto.left ∙ (room_lengths (room c.args.left.now c.args.sets.now c.args.amounts.now) c.requires.memory).0
 
 -- ---- a turn: what the question gave, and the link that holds it down
 
@@ -86,7 +86,7 @@ room_left g c =
 lengths : (g : given.Over) (c : goal.In-Some-tightest g) → (length c.loop-set.left ≡ 200) × (length c.loop-set.sets ≡ 80) × (length c.loop-set.amounts ≡ 80)
 lengths g c =
     let at_first = room_lengths (room c.args.left.now c.args.sets.now c.args.amounts.now) c.requires.memory in
-    (c.loop-set.auto.left ∙ c.copy-prices.auto.left ∙ at_first.0, c.loop-set.auto.sets ∙ at_first.1, c.loop-set.auto.amounts ∙ at_first.2)
+    (c.loop-set.auto.left ∙ c.copy_prices.auto.left ∙ at_first.0, c.loop-set.auto.sets ∙ at_first.1, c.loop-set.auto.amounts ∙ at_first.2)
 
 link_in_column : (g : given.Over) (c : goal.In-Some-tightest g) → c.in-Some-tightest.link < length c.loop-set.left
 link_in_column g c =
@@ -101,15 +101,15 @@ link_in_column g c =
           c.in-Some-tightest.link (found_link g c),
     )
 
-pub offset-bounds-left-link : goal.offset-bounds-left-link
-offset-bounds-left-link g c =
-    let i : c.in-Some-tightest.link < length c.args.left.now = omega (arith, link_in_column g c, c.loop-set.auto.left, c.copy-prices.auto.left) in search rules
+pub offset_bounds-left-link : goal.offset_bounds-left-link
+offset_bounds-left-link g c =
+    let i : c.in-Some-tightest.link < length c.args.left.now = omega (arith, link_in_column g c, c.loop-set.auto.left, c.copy_prices.auto.left) in search rules
 
 pub bounds-left-link : goal.bounds-left-link
 bounds-left-link g c = link_in_column g c
 
-pub offset-bounds-sets-count : goal.offset-bounds-sets-count
-offset-bounds-sets-count g c = omega (arith, room_left g (goal.at.offset-bounds-sets-count g c).In-Some-tightest)
+pub offset_bounds-sets-count : goal.offset_bounds-sets-count
+offset_bounds-sets-count g c = omega (arith, room_left g (goal.at.offset_bounds-sets-count g c).In-Some-tightest)
 
 pub bounds-sets-count : goal.bounds-sets-count
 bounds-sets-count g c =
@@ -118,15 +118,15 @@ bounds-sets-count g c =
 room_for_amount : (g : given.Over) (c : goal.In-Some-tightest g) → c.loop-set.count < length c.loop-set.amounts
 room_for_amount g c = omega (arith, room_left g c, (lengths g c).2)
 
-pub offset-bounds-amounts-count : goal.offset-bounds-amounts-count
-offset-bounds-amounts-count g c =
-    let i : c.loop-set.count < length c.args.amounts.now = omega (arith, room_for_amount g (goal.at.offset-bounds-amounts-count g c).In-Some-tightest, c.loop-set.auto.amounts) in search rules
+pub offset_bounds-amounts-count : goal.offset_bounds-amounts-count
+offset_bounds-amounts-count g c =
+    let i : c.loop-set.count < length c.args.amounts.now = omega (arith, room_for_amount g (goal.at.offset_bounds-amounts-count g c).In-Some-tightest, c.loop-set.auto.amounts) in search rules
 
 pub bounds-amounts-count : goal.bounds-amounts-count
 bounds-amounts-count g c = room_for_amount g (goal.at.bounds-amounts-count g c).In-Some-tightest
 
-pub overflow-add-count : goal.overflow-add-count
-overflow-add-count g c = omega (arith, room_left g (goal.at.overflow-add-count g c).In-Some-tightest)
+pub overflow_add-count : goal.overflow_add-count
+overflow_add-count g c = omega (arith, room_left g (goal.at.overflow_add-count g c).In-Some-tightest)
 
 pub lower-requires : goal.lower-requires
 lower-requires g c =
@@ -157,7 +157,7 @@ loop-set-preserved g c =
     let f = c.args.family.now in
     let left = c.loop-set.left in
     progress_after parts s.stations (asked g s c.args.prices.now f) (g.F.Family.member f) (lawful_here g t)
-    (room c.copy-prices.new.left c.args.sets.now c.args.amounts.now) left c.loop-set.sets c.loop-set.amounts c.loop-set.count
+    (room c.copy_prices.new.left c.args.sets.now c.args.amounts.now) left c.loop-set.sets c.loop-set.amounts c.loop-set.count
     c.loop-set.used.marks (take c.loop-set.used.count c.loop-set.used.order) c.loop-set.invariant c.in-Some.set (given_set g t)
     c.in-Some-tightest.link (found_link g t) c.index-left-link.result
     (get_or-map_read parts left c.in-Some-tightest.link c.index-left-link.result (link_in_column g t) c.index-left-link.is)
@@ -167,25 +167,25 @@ loop-set-preserved g c =
 
 -- ---- the end
 
-pub returns-in-default-tightest : goal.returns-in-default-tightest
-returns-in-default-tightest g c =
+pub returns-in_default-tightest : goal.returns-in_default-tightest
+returns-in_default-tightest g c =
     let s = c.args.sheet.now in
     let f = c.args.family.now in
     let P = c.loop-set.invariant in
     absurd (some_is_tightest s.stations (asked g s c.args.prices.now f) (g.F.Family.member f) (lawful g s c.args.prices.now f c.requires.ready) c.loop-set.count P.before
     c.loop-set.used.marks P.marks_show c.in-Some.set (sym c.smallest.ensures ∙ c.in-Some.is) (map g.T.Amount.parts c.loop-set.left) P.filled.left_written
-    (sym c.tightest.ensures ∙ c.in-default-tightest.is))
+    (sym c.tightest.ensures ∙ c.in_default-tightest.is))
 
-pub returns-in-default : goal.returns-in-default
-returns-in-default g c =
+pub returns-in_default : goal.returns-in_default
+returns-in_default g c =
     let s = c.args.sheet.now in
     let f = c.args.family.now in
     let a = asked g s c.args.prices.now f in
     let P = c.loop-set.invariant in
     record {
-      stops = record { before = P.before; none = ap a.smallest (sym P.marks_show) ∙ sym c.smallest.ensures ∙ c.in-default.is };
+      stops = record { before = P.before; none = ap a.smallest (sym P.marks_show) ∙ sym c.smallest.ensures ∙ c.in_default.is };
       order = P.order_is;
-      filled = filled_from g.T.Amount.parts a c.args.left.now c.copy-prices.new.left c.args.sets.now c.args.amounts.now
-          (room c.loop-set.left c.loop-set.sets c.loop-set.amounts) c.loop-set.count c.copy-prices.auto.left
-          (λ k d none. c.copy-prices.ensures k d ∙ ap (λ b. cond b (get_or c.args.prices.now k d) (get_or c.args.left.now k d)) none) P.filled;
+      filled = filled_from g.T.Amount.parts a c.args.left.now c.copy_prices.new.left c.args.sets.now c.args.amounts.now
+          (room c.loop-set.left c.loop-set.sets c.loop-set.amounts) c.loop-set.count c.copy_prices.auto.left
+          (λ k d none. c.copy_prices.ensures k d ∙ ap (λ b. cond b (get_or c.args.prices.now k d) (get_or c.args.left.now k d)) none) P.filled;
     }

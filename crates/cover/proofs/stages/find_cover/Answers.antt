@@ -47,8 +47,8 @@ take-kept-requires g c =
     subst (λ o. Findable s.links.slots a.largest o) (sym c.pack-packing.ensures.order)
     (stage_2_finds s.stations a (g.F.Family.member f) (lawful g s prices f c.requires.ready) c.pack-packing.result.sets c.pack-packing.ensures.stops)
 
-pub cost-of-marked-requires : goal.cost-of-marked-requires
-cost-of-marked-requires g c =
+pub cost_of_marked-requires : goal.cost_of_marked-requires
+cost_of_marked-requires g c =
     let s = c.args.sheet.now in
     let prices = c.args.prices.now in
     let f = c.args.family.now in
@@ -74,7 +74,7 @@ returns g c =
     let done : Done a sets c.keep.new.marks = stages_done s.stations a Member L sets p.ensures.stops order p.ensures.order c.take-kept.result c.take-kept.ensures c.keep.new.marks c.keep.ensures in
     let cost : parts c.cost_of_marked.result ≡ cost_in_force a (marked c.keep.new.marks) =
     c.cost_of_marked.ensures ∙ cost_is s.stations a Member L sets p.ensures.stops order p.ensures.order c.take-kept.result c.take-kept.ensures c.keep.new.marks c.keep.ensures in
-    let copied = c.copy-from-slice.ensures.after in
+    let copied = c.copy_from_slice.ensures.after in
     record {
       filled =
           record {
@@ -83,5 +83,5 @@ returns g c =
             cost_of_marked = cost ∙ ap (λ m. cost_in_force a (marked m)) (sym copied);
           };
       small = stays_small s.stations a Member L sets p.ensures.stops parts (room c.args.left.now c.args.sets.now c.args.amounts.now) (room p.new.left p.new.sets p.new.amounts) p.ensures.filled;
-      cheapest = cheapest_of a Member c.keep.new.marks c.copy-from-slice.new.self (parts c.cost_of_marked.result) copied cost (done_is_cheapest s.stations a Member L sets c.keep.new.marks done);
+      cheapest = cheapest_of a Member c.keep.new.marks c.copy_from_slice.new.self (parts c.cost_of_marked.result) copied cost (done_is_cheapest s.stations a Member L sets c.keep.new.marks done);
     }

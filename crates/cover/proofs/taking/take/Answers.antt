@@ -25,13 +25,13 @@ loop-set-preserved g c =
     one_turn_more c.args.sheet.now.links.slots (g.F.Family.large c.args.family.now (held c.args.sheet.now)) (take c.args.used.now.count c.args.used.now.order)
     c.requires c.loop-set.taken c.loop-set.invariant c.in-Some.set (sym c.largest.ensures ∙ c.in-Some.is) c.in-Some-earliest.link (sym c.earliest.ensures ∙ c.in-Some-earliest.is)
 
-pub returns-in-default-earliest : goal.returns-in-default-earliest
-returns-in-default-earliest g c =
+pub returns-in_default-earliest : goal.returns-in_default-earliest
+returns-in_default-earliest g c =
     absurd (some_is_found c.args.sheet.now.links.slots (g.F.Family.large c.args.family.now (held c.args.sheet.now)) (take c.args.used.now.count c.args.used.now.order)
-    c.requires c.loop-set.taken c.loop-set.invariant c.in-Some.set (sym c.largest.ensures ∙ c.in-Some.is) (sym c.earliest.ensures ∙ c.in-default-earliest.is))
+    c.requires c.loop-set.taken c.loop-set.invariant c.in-Some.set (sym c.largest.ensures ∙ c.in-Some.is) (sym c.earliest.ensures ∙ c.in_default-earliest.is))
 
-pub returns-in-default : goal.returns-in-default
-returns-in-default g c =
+pub returns-in_default : goal.returns-in_default
+returns-in_default g c =
     let t = c.loop-set.invariant in
     let largest = g.F.Family.large c.args.family.now (held c.args.sheet.now) in
-    record { turns = t.0; took = record { before = t.2; none = ap largest (sym t.1) ∙ sym c.largest.ensures ∙ c.in-default.is }; marks_are = t.1 }
+    record { turns = t.0; took = record { before = t.2; none = ap largest (sym t.1) ∙ sym c.largest.ensures ∙ c.in_default.is }; marks_are = t.1 }

@@ -8,8 +8,8 @@ use Rattle.family.specs.Reach.{marked_link, marked_steps}
 use Rattle.family.specs.Marking.{marked_link_low}
 use Rattle.family.proofs.reach.steps.Goals as goal
 
-pub add-step-requires : goal.add-step-requires
-add-step-requires c =
+pub add_step-requires : goal.add_step-requires
+add_step-requires c =
     let s = c.args.sheet.now in
     subst Low (sym c.marked.ensures) (marked_link_low s.stations s.links.slots s.proper s.few s.links.sized c.args.marks.now c.args.way c.loop-k.k)
 
@@ -19,8 +19,8 @@ loop-k-preserved c =
     let os = map f (range_with_len 0 200) in
     let k = c.loop-k.k in
     let read : c.marked.result ≡ get_or os k None = c.marked.ensures ∙ sym (get_or-map-range_with_len f 0 200 k k None (omega arith) (omega arith)) in (
-      ap length c.add-step.ensures ∙ next_step_sized c.marked.result c.loop-k.next c.loop-k.invariant.0,
-      ap (λ m. steps_from m (drop (k + 1) os)) c.add-step.ensures
+      ap length c.add_step.ensures ∙ next_step_sized c.marked.result c.loop-k.next c.loop-k.invariant.0,
+      ap (λ m. steps_from m (drop (k + 1) os)) c.add_step.ensures
           ∙ steps_one_on os c.loop-k.next k c.marked.result (omega (arith, length-map-range_with_len f 0 200)) read
           ∙ c.loop-k.invariant.1,
     )

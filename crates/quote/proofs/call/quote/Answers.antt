@@ -8,14 +8,14 @@ use Rattle.quote.specs.Quotes.{tree_quote_checks}
 use Rattle.quote.proofs.Quoting.{column_passed}
 use Rattle.quote.proofs.call.quote.Goals as goal
 
-pub returns-in-err-check-column : goal.returns-in-err-check-column
-returns-in-err-check-column g c =
+pub returns-in_err-check_column : goal.returns-in_err-check_column
+returns-in_err-check_column g c =
     let h = held c.args.sheet.now in
     let ps = map g.T.Amount.parts c.args.prices.now in
-    let p = err_from_is_err_and c.from-residual.result c.from-residual.ensures.1 in
+    let p = err_from_is_err_and c.from_residual.result c.from_residual.ensures.1 in
     rw (p.1, p.2)
     (record {
-      refusal = sym (first_of_front (column_checks h ps) (tree_quote_checks h _) _ (sym c.in-err-check-column.ensures));
+      refusal = sym (first_of_front (column_checks h ps) (tree_quote_checks h _) _ (sym c.in_err-check_column.ensures));
       untouched = λ _. refl;
       filled = tt;
       small = tt;
@@ -23,15 +23,15 @@ returns-in-err-check-column g c =
       least = tt;
     })
 
-pub find-quote-requires : goal.find-quote-requires
-find-quote-requires g c =
+pub find_quote-requires : goal.find_quote-requires
+find_quote-requires g c =
     let h = held c.args.sheet.now in
     let prices = c.args.prices.now in
     let parts = g.T.Amount.parts in
-    let passed = column_passed h (map parts prices) (sym c.in-ok-check-column.ensures) in
+    let passed = column_passed h (map parts prices) (sym c.in_ok-check_column.ensures) in
     record {
       column = sym (length-map prices parts) ∙ passed.0;
       priced = passed.1;
-      memory = sym c.memory_fits.ensures ∙ c.if-not-memory-fits.false;
+      memory = sym c.memory_fits.ensures ∙ c.if-not-memory_fits.false;
       family = c.in-Some.ensures.sheet;
     }

@@ -28,8 +28,8 @@ planted f s same = subst (λ x. is_some (held x).tree ≡ true) same f.planted
 wide : (g : given.Over) (prices : List g.row.T.Denot) → length prices ≡ 200 → (k : ℕ) → k < 200 → length (get_or (map g.T.Amount.parts prices) k []) ≡ g.T.Amount.width
 wide g prices e k h = column_wide g.T.Amount.parts g.T.Amount.width g.met.T.Amount.as_wide prices k (omega arith)
 
-pub find-cover-cover-requires : goal.find-cover-cover-requires
-find-cover-cover-requires g c =
+pub find_cover-cover-requires : goal.find_cover-cover-requires
+find_cover-cover-requires g c =
     let s = c.args.sheet.now in
     let f = c.args.family.now in
     let prices = c.args.prices.now in
@@ -41,8 +41,8 @@ find-cover-cover-requires g c =
       memory = (quote_lengths (quote_memory c.args.left.now c.args.revised.now c.args.sets.now c.args.amounts.now c.args.marks.now) c.requires.memory).0;
     }
 
-pub copy-prices-requires : goal.copy-prices-requires
-copy-prices-requires g c =
+pub copy_prices-requires : goal.copy_prices-requires
+copy_prices-requires g c =
     record {
       prices = c.requires.column;
       left = (quote_lengths (quote_memory c.args.left.now c.args.revised.now c.args.sets.now c.args.amounts.now c.args.marks.now) c.requires.memory).2;
@@ -61,35 +61,35 @@ filled_here : (g : given.Over) (f : TreeFamily) (s : Sheet) → f.sheet ≡ s �
 filled_here g f s same prices old new count cost =
     subst (λ x. Filled g.T.Amount.parts (asked_of g.T.Amount.width (held s) (map g.T.Amount.parts prices) (tree_smallest (held x)) (tree_largest (held x))) old new count cost) same
 
-pub lower-listed-requires : goal.lower-listed-requires
-lower-listed-requires g c =
+pub lower_listed-requires : goal.lower_listed-requires
+lower_listed-requires g c =
     let s = c.args.sheet.now in
     let f = c.args.family.now in
     let prices = c.args.prices.now in
     let parts = g.T.Amount.parts in
-    let cover = c.find-cover-cover in
+    let cover = c.find_cover-cover in
     let has_tree = planted f s c.requires.family in
-    let list_is = sym c.tree-links.ensures in
+    let list_is = sym c.tree_links.ensures in
     let lengths = quote_lengths (quote_memory c.args.left.now c.args.revised.now c.args.sets.now c.args.amounts.now c.args.marks.now) c.requires.memory in
     let small = small_here g f s c.requires.family prices cover.new.left cover.new.amounts cover.new.sets cover.result.sets cover.ensures.small in
     record {
       prices = c.requires.column;
       left = cover.auto.left ∙ lengths.1;
-      revised = c.copy-prices.auto.left ∙ lengths.2;
+      revised = c.copy_prices.auto.left ∙ lengths.2;
       placed = subst (λ l. (i : ℕ) → i < length l → get_or l i 0 < 200) list_is (tree_link_placed (held s) (sheet_is_sound s) has_tree);
       fits = subst (λ l. (i : ℕ) → i < length l → Fitting (minus (shown (map parts prices) (get_or l i 0)) (shown (map parts cover.new.left) (get_or l i 0)))) list_is
           (tree_difference_fits parts g.T.Amount.width (held s) (sheet_is_sound s) has_tree prices c.requires.column c.requires.priced (wide g prices c.requires.column)
           cover.new.left cover.result.sets cover.new.sets cover.new.amounts small);
     }
 
-pub cost-of-listed-tree-cost-requires : goal.cost-of-listed-tree-cost-requires
-cost-of-listed-tree-cost-requires g c =
+pub cost_of_listed-tree_cost-requires : goal.cost_of_listed-tree_cost-requires
+cost_of_listed-tree_cost-requires g c =
     let s = c.args.sheet.now in
     let f = c.args.family.now in
     let prices = c.args.prices.now in
     let parts = g.T.Amount.parts in
     let has_tree = planted f s c.requires.family in
-    let list_is = sym c.tree-links-2.ensures in
+    let list_is = sym c.tree_links-2.ensures in
     record {
       few = subst (λ l. length l ≤ 39) list_is (tree_is_short (held s) (sheet_is_sound s) has_tree);
       placed = subst (λ l. (i : ℕ) → i < length l → get_or l i 0 < length prices) list_is (λ i l. omega (arith, tree_link_placed (held s) (sheet_is_sound s) has_tree i l, c.requires.column));
@@ -105,7 +105,7 @@ returns g c =
     let prices = c.args.prices.now in
     let parts = g.T.Amount.parts in
     let w = g.T.Amount.width in
-    let cover = c.find-cover-cover in
+    let cover = c.find_cover-cover in
     let sound = sheet_is_sound s in
     let has_tree = planted f s c.requires.family in
     let is_wide = wide g prices c.requires.column in
@@ -113,18 +113,18 @@ returns g c =
     let new = memory cover.new.left cover.new.sets cover.new.amounts cover.new.marks in
     let cost = parts cover.result.cost in
     let filled = filled_here g f s c.requires.family prices old new cover.result.sets cost cover.ensures.filled in
-    let total = parts c.cost-of-listed-tree-cost.result in
-    let total-is = c.cost-of-listed-tree-cost.ensures ∙ ap (cost_of_list w (shown (map parts prices))) c.tree-links-2.ensures in
+    let total = parts c.cost_of_listed-tree_cost.result in
+    let total-is = c.cost_of_listed-tree_cost.ensures ∙ ap (cost_of_list w (shown (map parts prices))) c.tree_links-2.ensures in
     let lengths = quote_lengths (quote_memory c.args.left.now c.args.revised.now c.args.sets.now c.args.amounts.now c.args.marks.now) c.requires.memory in
-    let lowered = subst (λ l. (k : ℕ) → listed l k ≡ true → shown (map parts c.lower-listed.new.revised) k ≡ minus (shown (map parts prices) k) (shown (map parts cover.new.left) k)) c.tree-links.ensures c.lower-listed.ensures.lowered in
-    let others = subst (λ l. (k : ℕ) (d : g.row.T.Denot) → listed l k ≡ false → get_or c.lower-listed.new.revised k d ≡ get_or c.copy-prices.new.left k d) c.tree-links.ensures c.lower-listed.ensures.others in
-    let copied_long = c.copy-prices.auto.left ∙ lengths.2 ∙ sym c.requires.column in
+    let lowered = subst (λ l. (k : ℕ) → listed l k ≡ true → shown (map parts c.lower_listed.new.revised) k ≡ minus (shown (map parts prices) k) (shown (map parts cover.new.left) k)) c.tree_links.ensures c.lower_listed.ensures.lowered in
+    let others = subst (λ l. (k : ℕ) (d : g.row.T.Denot) → listed l k ≡ false → get_or c.lower_listed.new.revised k d ≡ get_or c.copy_prices.new.left k d) c.tree_links.ensures c.lower_listed.ensures.others in
+    let copied_long = c.copy_prices.auto.left ∙ lengths.2 ∙ sym c.requires.column in
     record {
       filled = quote_filled parts w h sound has_tree prices c.requires.column c.requires.priced is_wide old new cover.result.sets cost filled total (parts c.minus.result) total-is c.minus.ensures
-          c.args.revised.now c.copy-prices.new.left c.lower-listed.new.revised copied_long c.copy-prices.auto.left c.lower-listed.auto.revised c.copy-prices.ensures lowered others;
+          c.args.revised.now c.copy_prices.new.left c.lower_listed.new.revised copied_long c.copy_prices.auto.left c.lower_listed.auto.revised c.copy_prices.ensures lowered others;
       small = small_here g f s c.requires.family prices cover.new.left cover.new.amounts cover.new.sets cover.result.sets cover.ensures.small;
       keeps = quote_keeps parts w h sound has_tree prices c.requires.column c.requires.priced is_wide old new cover.result.sets cost filled total (parts c.minus.result) total-is c.minus.ensures
-          c.args.revised.now c.copy-prices.new.left c.lower-listed.new.revised copied_long c.copy-prices.auto.left c.lower-listed.auto.revised c.copy-prices.ensures lowered others;
+          c.args.revised.now c.copy_prices.new.left c.lower_listed.new.revised copied_long c.copy_prices.auto.left c.lower_listed.auto.revised c.copy_prices.ensures lowered others;
       least = quote_least parts w h sound has_tree prices c.requires.column c.requires.priced is_wide old new cover.result.sets cost filled total (parts c.minus.result) total-is c.minus.ensures
-          c.args.revised.now c.copy-prices.new.left c.lower-listed.new.revised copied_long c.copy-prices.auto.left c.lower-listed.auto.revised c.copy-prices.ensures lowered others;
+          c.args.revised.now c.copy_prices.new.left c.lower_listed.new.revised copied_long c.copy_prices.auto.left c.lower_listed.auto.revised c.copy_prices.ensures lowered others;
     }

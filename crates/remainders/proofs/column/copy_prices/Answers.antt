@@ -3,7 +3,7 @@ use Rattle.std.proofs.lemmas.List.{get_or_read, get_or_past}
 use Rattle.std.proofs.lemmas.Bool.{cond-true, cond-false}
 use Rattle.remainders.proofs.Passing.{passed_none, passed_unwritten, passed_written, passed_all}
 use Rattle.remainders.proofs.column.copy_prices.Goals as goal
-use Rattle.remainders.proofs.column.copy_prices.Goals.{then-is-some, else-is-some}
+use Rattle.remainders.proofs.column.copy_prices.Goals.{then-is_some, else-is_some}
 
 pub loop-k-init : goal.loop-k-init
 loop-k-init g c d = passed_none d _ c.args.left.now
@@ -12,15 +12,15 @@ pub loop-k-preserved : goal.loop-k-preserved
 loop-k-preserved g c d =
     let prices = c.args.prices.now in
     let k = c.loop-k.k in
-    let linked = ap is_some (sym c.link.ensures) ∙ sym c.is-some.ensures in
-    elim c.if-is-some.branch [
-      | then-is-some w ↦
+    let linked = ap is_some (sym c.link.ensures) ∙ sym c.is_some.ensures in
+    elim c.if-is_some.branch [
+      | then-is_some w ↦
           let x = w.index-prices-k.result in
-          passed_written d k _ _ c.loop-k.left (c.loop-k.invariant d) c.if-is-some.left x (omega (arith, c.loop-k.auto.left, c.requires.left)) w.left-is
-          (get_or_read prices k x (omega (arith, c.requires.prices)) w.index-prices-k.is d ∙ sym (cond-true _ _ _ (linked ∙ w.if-is-some.true)))
-      | else-is-some w ↦
-          passed_unwritten d k _ _ c.loop-k.left (c.loop-k.invariant d) c.if-is-some.left w.left-is
-          (sym (cond-false _ _ _ (linked ∙ w.if-is-some.false)))
+          passed_written d k _ _ c.loop-k.left (c.loop-k.invariant d) c.if-is_some.left x (omega (arith, c.loop-k.auto.left, c.requires.left)) w.left-is
+          (get_or_read prices k x (omega (arith, c.requires.prices)) w.index-prices-k.is d ∙ sym (cond-true _ _ _ (linked ∙ w.if-is_some.true)))
+      | else-is_some w ↦
+          passed_unwritten d k _ _ c.loop-k.left (c.loop-k.invariant d) c.if-is_some.left w.left-is
+          (sym (cond-false _ _ _ (linked ∙ w.if-is_some.false)))
     ]
 
 pub returns : goal.returns

@@ -18,8 +18,8 @@ enters-requires g c =
     let s = c.args.sheet.now in
     subst Low (sym c.link.ensures) (link_is_low s.stations s.links.slots s.proper s.few c.loop-k.k)
 
-pub lower-link-requires : goal.lower-link-requires
-lower-link-requires g c =
+pub lower_link-requires : goal.lower_link-requires
+lower_link-requires g c =
     let k = c.loop-k.k in
     let enters = entered_as_tested c.args.sheet.now.links.slots k c.args.set c.link.result c.enters.result c.link.ensures c.enters.ensures true c.if-enters.true in
     record {
@@ -38,10 +38,10 @@ loop-k-preserved g c =
       | then-enters w ↦
           lowered_here _ _ _ _ _ _ _ _ k c.loop-k.left _ _ c.loop-k.invariant (omega (arith, c.loop-k.used.sized)) c.if-enters.left used.marks (take used.count used.order)
           (tested true w.if-enters.true) (omega (arith, c.loop-k.auto.left, c.requires.sized))
-          (ap (map g.T.Amount.parts) w.left-is ∙ w.lower-link.ensures.lowered)
-          (λ j d other. ap (λ xs. get_or xs j d) w.left-is ∙ w.lower-link.ensures.others j d other)
-          (ap (λ u. u.marks) w.used-is ∙ w.lower-link.ensures.marks)
-          (ap (λ u. take u.count u.order) w.used-is ∙ w.lower-link.ensures.order)
+          (ap (map g.T.Amount.parts) w.left-is ∙ w.lower_link.ensures.lowered)
+          (λ j d other. ap (λ xs. get_or xs j d) w.left-is ∙ w.lower_link.ensures.others j d other)
+          (ap (λ u. u.marks) w.used-is ∙ w.lower_link.ensures.marks)
+          (ap (λ u. take u.count u.order) w.used-is ∙ w.lower_link.ensures.order)
       | else-enters w ↦
           not_lowered_here _ _ _ _ _ _ _ _ k c.loop-k.left _ _ c.loop-k.invariant (omega (arith, c.loop-k.used.sized)) c.if-enters.left used.marks (take used.count used.order)
           (tested false w.if-enters.false) w.left-is (ap (λ u. u.marks) w.used-is) (ap (λ u. take u.count u.order) w.used-is)

@@ -5,7 +5,7 @@ use Rattle.sheet.proofs.Columns.{get_or-map_read}
 use Rattle.remainders.specs.Column.{spent, spent_link}
 use Rattle.remainders.proofs.Noting.{noted_none, noted_one_on, noted_marks, noted_order}
 use Rattle.remainders.proofs.column.used_up_at_first.Goals as goal
-use Rattle.remainders.proofs.column.used_up_at_first.Goals.{then-is-some+then-is-spent, else-is-some, else-is-some-via-then-is-some+else-is-spent, else-is-some-via-else-is-some}
+use Rattle.remainders.proofs.column.used_up_at_first.Goals.{then-is_some+then-is_spent, else-is_some, else-is_some-via-then-is_some+else-is_spent, else-is_some-via-else-is_some}
 
 pub loop-k-init : goal.loop-k-init
 loop-k-init g c =
@@ -24,20 +24,20 @@ loop-k-preserved g c =
     let width = g.T.Amount.width in
     let left = c.args.left.now in
     let k = c.loop-k.k in
-    let used = c.if-is-some.used in
-    let linked = ap is_some (sym c.link.ensures) ∙ sym c.is-some.ensures in
+    let used = c.if-is_some.used in
+    let linked = ap is_some (sym c.link.ensures) ∙ sym c.is_some.ensures in
     let on = noted_one_on _ (replicate 200 0) [] k _ _ c.loop-k.invariant (omega (arith, c.loop-k.used.sized)) used.marks (take used.count used.order) in
-    elim c.if-is-some.branch [
-      | then-is-some+then-is-spent w ↦
+    elim c.if-is_some.branch [
+      | then-is_some+then-is_spent w ↦
           on true
-          (and_from _ _ (linked ∙ w.if-is-some.true) (ap (spent width) (get_or-map_read f left k w.index-left-k.result (omega (arith, c.requires)) w.index-left-k.is) ∙ sym w.is-spent.ensures ∙ w.if-is-spent.true))
+          (and_from _ _ (linked ∙ w.if-is_some.true) (ap (spent width) (get_or-map_read f left k w.index-left-k.result (omega (arith, c.requires)) w.index-left-k.is) ∙ sym w.is_spent.ensures ∙ w.if-is_spent.true))
           (ap (λ u. u.marks) w.used-is ∙ w.note.ensures.marks)
           (ap (λ u. take u.count u.order) w.used-is ∙ w.note.ensures.order)
-      | else-is-some w ↦
-          let passed_by : spent_link width c.args.sheet.now.links.slots (map f left) k ≡ false = elim w.else-is-some.branch [
-            | else-is-some-via-then-is-some+else-is-spent v ↦
-                and_right _ _ (ap (spent width) (get_or-map_read f left k v.index-left-k.result (omega (arith, c.requires)) v.index-left-k.is) ∙ sym v.is-spent.ensures ∙ v.if-is-spent.false)
-            | else-is-some-via-else-is-some v ↦ and_left _ _ (linked ∙ v.if-is-some.false)
+      | else-is_some w ↦
+          let passed_by : spent_link width c.args.sheet.now.links.slots (map f left) k ≡ false = elim w.else-is_some.branch [
+            | else-is_some-via-then-is_some+else-is_spent v ↦
+                and_right _ _ (ap (spent width) (get_or-map_read f left k v.index-left-k.result (omega (arith, c.requires)) v.index-left-k.is) ∙ sym v.is_spent.ensures ∙ v.if-is_spent.false)
+            | else-is_some-via-else-is_some v ↦ and_left _ _ (linked ∙ v.if-is_some.false)
           ] in
           on false passed_by
           (ap (λ u. u.marks) w.used-is)

@@ -8,8 +8,8 @@ returns-in-Some g c =
     (omega (arith, c.requires.sized, c.requires.within)) c.index-left-k.is (omega (arith, c.requires.sized, c.requires.numbered c.in-Some.j c.in-Some.is)) c.index-left-j.is
     false (cc)
 
-pub returns-in-default : goal.returns-in-default
-returns-in-default g c =
+pub returns-in_default : goal.returns-in_default
+returns-in_default g c =
     tighter_as_read g.T.Amount.parts c.args.left.now c.args.best c.in-Some.j c.args.k c.index-left-k.result c.index-left-j.result c.in-Some.is
     (omega (arith, c.requires.sized, c.requires.within)) c.index-left-k.is (omega (arith, c.requires.sized, c.requires.numbered c.in-Some.j c.in-Some.is)) c.index-left-j.is
     true (cc)

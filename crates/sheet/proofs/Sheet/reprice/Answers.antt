@@ -7,17 +7,17 @@ use Rattle.sheet.proofs.Sheet.reprice.Given as given
 use Rattle.sheet.proofs.Sheet.reprice.Goals as goal
 
 -- the number names a link, so it is a place of the column
-in_column : (g : given.Over) (c : goal.Else-not-is-legal g) → c.args.number < length c.args.prices.now
+in_column : (g : given.Over) (c : goal.Else-not-is_legal g) → c.args.number < length c.args.prices.now
 in_column g c =
     let a = c.args in
     let s = a.self.now in
     let f = g.T.Amount.parts in
-    let size = passed_column_is_sized (held s) (map f a.prices.now) (sym c.in-ok-check-column.ensures) in
-    let some : is_some (link_at s.links.slots a.number) ≡ true = ap is_some (sym c.link.ensures) ∙ c.if-is-none.ensures in
+    let size = passed_column_is_sized (held s) (map f a.prices.now) (sym c.in_ok-check_column.ensures) in
+    let some : is_some (link_at s.links.slots a.number) ≡ true = ap is_some (sym c.link.ensures) ∙ c.if-is_none.ensures in
     omega (arith, size, length-map a.prices.now f, link_is_numbered s.links.slots a.number some, s.links.sized)
 
 pub bounds-prices-number : goal.bounds-prices-number
 bounds-prices-number g c = in_column g c
 
-pub offset-bounds-prices-number : goal.offset-bounds-prices-number
-offset-bounds-prices-number g c = let i : c.args.number < length c.args.prices.now = in_column g c in search rules
+pub offset_bounds-prices-number : goal.offset_bounds-prices-number
+offset_bounds-prices-number g c = let i : c.args.number < length c.args.prices.now = in_column g c in search rules

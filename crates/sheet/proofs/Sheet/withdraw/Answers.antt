@@ -10,22 +10,15 @@ pub put-requires : goal.put-requires
 put-requires g c =
     let s = c.args.self.now in
     let k = c.args.number in
-    let some : is_some (link_at s.links.slots k) ≡ true = ap is_some (sym c.link.ensures) ∙ c.if-is-none.ensures in
+    let some : is_some (link_at s.links.slots k) ≡ true = ap is_some (sym c.link.ensures) ∙ c.if-is_none.ensures in
     omega (arith, link_is_numbered s.links.slots k some, s.links.sized)
 
-pub invariant-of-self : goal.invariant-of-self
-invariant-of-self g c =
+pub invariant_of-self : goal.invariant_of-self
+invariant_of-self g c =
     let s = c.args.self.now in
-    let k = c.args.number in (
-      s.some,
-      (
-        s.few,
-        (
-          subst (Proper s.stations) (sym c.put.ensures) (proper_without_link s.stations s.links.slots k s.proper),
-          (
-            subst (λ x. Spans s.stations x s.tree) (sym c.put.ensures) (spans_without_link s.stations s.links.slots s.tree k (sym c.if-in-tree.ensures) s.spans),
-            tt,
-          ),
-        ),
-      ),
-    )
+    let k = c.args.number in record {
+      some = s.some;
+      few = s.few;
+      proper = subst (Proper s.stations) (sym c.put.ensures) (proper_without_link s.stations s.links.slots k s.proper);
+      spans = subst (λ x. Spans s.stations x s.tree) (sym c.put.ensures) (spans_without_link s.stations s.links.slots s.tree k (sym c.if-in_tree.ensures) s.spans);
+    }

@@ -6,4 +6,4 @@ pub returns-in-Some : goal.returns-in-Some
 returns-in-Some g c =
     let f = g.T.Amount.parts in
     let x = c.index-prices-k.result in
-    c.is-legal.ensures ∙ priced_at_link c.args.links.now.slots (map f c.args.prices.now) c.args.k _ (f x) c.in-Some.ensures (get_or-map_read f c.args.prices.now c.args.k x (omega arith) c.index-prices-k.is)
+    c.is_legal.ensures ∙ priced_at_link c.args.links.now.slots (map f c.args.prices.now) c.args.k _ (f x) c.in-Some.ensures (get_or-map_read f c.args.prices.now c.args.k x (omega arith) c.index-prices-k.is)

@@ -5,8 +5,8 @@ use Rattle.digraph.specs.Steps.{steps_from}
 use Rattle.digraph.proofs.Stepping.{next_step_sized, steps_one_on}
 use Rattle.sheet.proofs.spanning.steps_along.Goals as goal
 
-pub add-step-requires : goal.add-step-requires
-add-step-requires g c κs l e =
+pub add_step-requires : goal.add_step-requires
+add_step-requires g c l e =
     let s = c.args.sheet.now in
     let p = s.proper c.at.result l (sym c.link.ensures ∙ e) in
     (omega (arith, p.0, s.few), omega (arith, p.1, s.few))
@@ -19,8 +19,8 @@ loop-i-preserved g c =
     let i = c.loop-i.i in
     let here : i < length ks = omega arith in
     let read : c.link.result ≡ get_or os i None = c.link.ensures ∙ ap (link_at slots) c.at.ensures ∙ sym (get_or-map (link_at slots) ks i 0 None here) in (
-      ap length c.add-step.ensures ∙ next_step_sized c.link.result c.loop-i.next c.loop-i.invariant.0,
-      ap (λ m. steps_from m (drop (i + 1) os)) c.add-step.ensures
+      ap length c.add_step.ensures ∙ next_step_sized c.link.result c.loop-i.next c.loop-i.invariant.0,
+      ap (λ m. steps_from m (drop (i + 1) os)) c.add_step.ensures
           ∙ steps_one_on os c.loop-i.next i c.link.result (omega (arith, length-map ks (link_at slots))) read
           ∙ c.loop-i.invariant.1,
     )

@@ -18,51 +18,51 @@ returns-then-prices-ne-LINKS g c =
       untouched = λ k d none. refl;
     }
 
-pub returns-in-err-seen : goal.returns-in-err-seen
-returns-in-err-seen g c =
+pub returns-in_err-seen : goal.returns-in_err-seen
+returns-in_err-seen g c =
     let f = g.T.Amount.parts in
-    let p = err_from_is_err_and c.from-residual.result c.from-residual.ensures.1 in
+    let p = err_from_is_err_and c.from_residual.result c.from_residual.ensures.1 in
     rw (p.1, p.2)
     (record {
-      loaded = λ spans d. file_refused g.T.Amount.width g.T.Amount.byte c.args.file.now (map f c.args.prices.now) spans _ (length-map c.args.prices.now f ∙ c.if-prices-ne-LINKS.false) c.in-err-seen.ensures.refusal;
+      loaded = λ spans d. file_refused g.T.Amount.width g.T.Amount.byte c.args.file.now (map f c.args.prices.now) spans _ (length-map c.args.prices.now f ∙ c.if-prices-ne-LINKS.false) c.in_err-seen.ensures.refusal;
       sheet_kept = λ _. refl;
       column_kept = λ _. refl;
       untouched = λ k d none. refl;
     })
 
-pub sheet-in-requires : goal.sheet-in-requires
-sheet-in-requires g c =
-    let v = c.in-ok-seen.seen in
-    let e = c.in-ok-seen.ensures in
+pub sheet_in-requires : goal.sheet_in-requires
+sheet_in-requires g c =
+    let v = c.in_ok-seen.seen in
+    let e = c.in_ok-seen.ensures in
     record {
       stations = stations_fit g.T.Amount.width g.T.Amount.byte c.args.file.now e.refusal v.stations v.records.now v.tree.now e.stations e.records e.tree;
       size = records_fit g.T.Amount.width g.T.Amount.byte c.args.file.now e.refusal v.stations v.records.now v.tree.now e.stations e.records e.tree;
     }
 
-pub returns-in-err-loaded : goal.returns-in-err-loaded
-returns-in-err-loaded g c =
+pub returns-in_err-loaded : goal.returns-in_err-loaded
+returns-in_err-loaded g c =
     let w = g.T.Amount.width in
     let kind = g.T.Amount.byte in
     let f = g.T.Amount.parts in
     let file = c.args.file.now in
-    let v = c.in-ok-seen.seen in
-    let e = c.in-ok-seen.ensures in
-    let p = err_from_is_err_and c.from-residual-in-err-loaded.result c.from-residual-in-err-loaded.ensures.1 in
+    let v = c.in_ok-seen.seen in
+    let e = c.in_ok-seen.ensures in
+    let p = err_from_is_err_and c.from_residual-in_err-loaded.result c.from_residual-in_err-loaded.ensures.1 in
     rw (p.1, p.2)
     (record {
       loaded = λ spans d.
           refused_from_view w kind file e.refusal v.stations v.records.now v.tree.now e.stations e.records e.tree (map f c.args.prices.now) (length-map c.args.prices.now f ∙ c.if-prices-ne-LINKS.false) spans _
-          (c.in-err-loaded.ensures.sheet spans (same_decision w kind file e.refusal v.stations v.records.now v.tree.now e.stations e.records e.tree spans d));
+          (c.in_err-loaded.ensures.sheet spans (same_decision w kind file e.refusal v.stations v.records.now v.tree.now e.stations e.records e.tree spans d));
       sheet_kept = λ _. refl;
       column_kept = λ _. refl;
       untouched = λ k d none. refl;
     })
 
-pub write-prices-requires : goal.write-prices-requires
-write-prices-requires g c = λ place h.
+pub write_prices-requires : goal.write_prices-requires
+write_prices-requires g c = λ place h.
     let w = g.T.Amount.width in
-    let v = c.in-ok-seen.seen in
-    let small = numbered_if_placed w v.records.now (opened v.stations) (length v.records.now / length_of_record w) (c.in-ok-loaded.ensures.placed refl) place h in
+    let v = c.in_ok-seen.seen in
+    let small = numbered_if_placed w v.records.now (opened v.stations) (length v.records.now / length_of_record w) (c.in_ok-loaded.ensures.placed refl) place h in
     omega (arith, small, c.if-prices-ne-LINKS.false)
 
 pub returns : goal.returns
@@ -71,17 +71,17 @@ returns g c =
     let kind = g.T.Amount.byte in
     let f = g.T.Amount.parts in
     let file = c.args.file.now in
-    let v = c.in-ok-seen.seen in
-    let e = c.in-ok-seen.ensures in
+    let v = c.in_ok-seen.seen in
+    let e = c.in_ok-seen.ensures in
     record {
       loaded = λ spans d.
           loaded_from_view w kind file e.refusal v.stations v.records.now v.tree.now e.stations e.records e.tree (map f c.args.prices.now) (length-map c.args.prices.now f ∙ c.if-prices-ne-LINKS.false) spans
-          (held c.in-ok-loaded.loaded) (map f c.write-prices.new.prices)
-          (c.in-ok-loaded.ensures.sheet spans (same_decision w kind file e.refusal v.stations v.records.now v.tree.now e.stations e.records e.tree spans d))
-          c.write-prices.ensures.written;
+          (held c.in_ok-loaded.loaded) (map f c.write_prices.new.prices)
+          (c.in_ok-loaded.ensures.sheet spans (same_decision w kind file e.refusal v.stations v.records.now v.tree.now e.stations e.records e.tree spans d))
+          c.write_prices.ensures.written;
       sheet_kept = λ no_more. absurd (true≢false no_more);
       column_kept = λ no_more. absurd (true≢false no_more);
       untouched = λ k d none.
-          c.write-prices.ensures.untouched k d
+          c.write_prices.ensures.untouched k d
           (subst (λ es. mentions k es ≡ false) (sym (same_entries w kind file e.refusal v.stations v.records.now v.tree.now e.stations e.records e.tree)) none);
     }

@@ -5,8 +5,8 @@ use Rattle.amount.specs.Records.{length_of_record}
 use Rattle.sheet_file.proofs.OneOn.{record_is_inside, written_here, not_mentioned_at}
 use Rattle.sheet_file.proofs.records.write_prices.Goals as goal
 
-pub record-at-link-requires : goal.record-at-link-requires
-record-at-link-requires g c =
+pub record_at-link-requires : goal.record_at-link-requires
+record_at-link-requires g c =
     record_is_inside (length c.args.records.now) (length_of_record g.T.Amount.width) c.loop-place.place (omega arith)
 
 pub loop-place-preserved : goal.loop-place-preserved
@@ -17,8 +17,8 @@ loop-place-preserved g c =
     let n = length bs / length_of_record w in
     let place = c.loop-place.place in
     let ps = c.loop-place.prices in
-    let k = c.record-at-link.result.number in
-    let p = c.record-at-link.result.price in (
-      written_here w bs place n (omega arith) _ c.record-at-link.ensures (map f ps) (map f (set ps k p)) (map-set f ps k p) ∙ c.loop-place.invariant.0,
-      λ j d none. get_or-set_other ps k j p d (λ e. not_mentioned_at w bs j 0 n none place (omega arith) (e ∙ ap (λ x. x.number) c.record-at-link.ensures ∙ ap (λ x. (entry_at w bs x).number) (let z : place ≡ 0 + place = omega arith in z))) ∙ c.loop-place.invariant.1 j d none,
+    let k = c.record_at-link.result.number in
+    let p = c.record_at-link.result.price in (
+      written_here w bs place n (omega arith) _ c.record_at-link.ensures (map f ps) (map f (set ps k p)) (map-set f ps k p) ∙ c.loop-place.invariant.0,
+      λ j d none. get_or-set_other ps k j p d (λ e. not_mentioned_at w bs j 0 n none place (omega arith) (e ∙ ap (λ x. x.number) c.record_at-link.ensures ∙ ap (λ x. (entry_at w bs x).number) (let z : place ≡ 0 + place = omega arith in z))) ∙ c.loop-place.invariant.1 j d none,
     )

@@ -14,30 +14,30 @@ pub loop-station-init : goal.loop-station-init
 loop-station-init c = (refl, λ d h. get_or-replicate 40 d 0 0 h)
 
 -- a depth is a place of the table
-depth_is_place : (c : goal.After-depth-in-depth) → c.depth-in-depth.result < 40
+depth_is_place : (c : goal.After-depth_in-depth) → c.depth_in-depth.result < 40
 depth_is_place c =
     let s = c.args.sheet.now in
     let few = s.few in
     let tree = planted_tree (held s) (sheet_is_sound s) c.requires.planted in
-    omega (arith, c.depth-in-depth.ensures, depth_below s.stations s.links.slots (tree_of (held s)) tree c.loop-station.station (omega (arith, c.stations-station-end.ensures)))
+    omega (arith, c.depth_in-depth.ensures, depth_below s.stations s.links.slots (tree_of (held s)) tree c.loop-station.station (omega (arith, c.stations-station-end.ensures)))
 
 pub bounds-levels-depth : goal.bounds-levels-depth
 bounds-levels-depth c = depth_is_place c
 
-pub bounds-levels-depth-in-loop-station : goal.bounds-levels-depth-in-loop-station
-bounds-levels-depth-in-loop-station c = depth_is_place c
+pub bounds-levels-depth_in-loop-station : goal.bounds-levels-depth_in-loop-station
+bounds-levels-depth_in-loop-station c = depth_is_place c
 
 pub loop-station-preserved : goal.loop-station-preserved
 loop-station-preserved c =
     let s = c.args.sheet.now in
     let few = s.few in
     let k = c.loop-station.station in
-    let at = c.depth-in-depth.result in
+    let at = c.depth_in-depth.result in
     let bit = (1 * 2 ^ k) % 2 ^ 64 in
     let on : k + 1 ≡ suc k = omega arith in
     let low : k < 64 = omega (arith, c.stations-station-end.ensures) in (
       length-set c.loop-station.levels at (bit_or (get_or c.loop-station.levels at 0) bit) ∙ c.loop-station.invariant.0,
-      level_more (held s) c.loop-station.levels k (k + 1) at bit c.loop-station.invariant.0 (depth_is_place c) c.depth-in-depth.ensures on (one_shl k 64 low) c.loop-station.invariant.1,
+      level_more (held s) c.loop-station.levels k (k + 1) at bit c.loop-station.invariant.0 (depth_is_place c) c.depth_in-depth.ensures on (one_shl k 64 low) c.loop-station.invariant.1,
     )
 
 pub returns : goal.returns

@@ -7,8 +7,8 @@ use Rattle.tree_shape.proofs.Noting.{Noted, tree_link_low, noted_none, noted_mor
 use Rattle.tree_shape.proofs.Planted.{planted_tree}
 use Rattle.tree_shape.proofs.parents.parents_in.Goals as goal
 
-pub put-parent-requires : goal.put-parent-requires
-put-parent-requires c =
+pub put_parent-requires : goal.put_parent-requires
+put_parent-requires c =
     let s = c.args.sheet.now in
     subst Low (sym c.link_of_tree.ensures) (tree_link_low (held s) c.loop-number.number (sheet_is_sound s))
 
@@ -19,7 +19,7 @@ pub loop-number-preserved : goal.loop-number-preserved
 loop-number-preserved c =
     let s = c.args.sheet.now in
     let k = c.loop-number.number in
-    subst (λ (ps : List ℕ). Noted (held s) ps (k + 1)) (sym (c.put-parent.ensures ∙ ap (with_parent c.loop-number.parents) c.link_of_tree.ensures))
+    subst (λ (ps : List ℕ). Noted (held s) ps (k + 1)) (sym (c.put_parent.ensures ∙ ap (with_parent c.loop-number.parents) c.link_of_tree.ensures))
     (noted_more (held s) (sheet_is_sound s) (planted_tree (held s) (sheet_is_sound s) c.requires) c.loop-number.parents k c.loop-number.invariant)
 
 pub returns : goal.returns

@@ -8,8 +8,8 @@ bounds-self-self c =
     let s = c.args.self.now in
     (room_for_one s.marks s.count c.args.k s.sized s.room c.requires.within c.requires.fresh).0
 
-pub invariant-of-self : goal.invariant-of-self
-invariant-of-self c =
+pub invariant_of-self : goal.invariant_of-self
+invariant_of-self c =
     let s = c.args.self.now in (
       length-set s.marks c.args.k 1 ∙ s.sized,
       (

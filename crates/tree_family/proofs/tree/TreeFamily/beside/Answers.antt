@@ -11,8 +11,8 @@ use Rattle.tree_family.proofs.Besides.{tree_step_low}
 use Rattle.tree_shape.proofs.Planted.{planted_tree}
 use Rattle.tree_family.proofs.tree.TreeFamily.beside.Goals as goal
 
-pub add-step-requires : goal.add-step-requires
-add-step-requires c =
+pub add_step-requires : goal.add_step-requires
+add_step-requires c =
     let f = c.args.self.now in
     let s = f.sheet in
     let w = c.loop-other.other in
@@ -27,8 +27,8 @@ loop-other-preserved c =
     let w = c.loop-other.other in
     let low : w < s.stations = omega (arith, c.stations-other-end.ensures) in
     let read : c.tree_step.result ≡ get_or os w None = c.tree_step.ensures ∙ sym (get_or-map-range_with_len step 0 s.stations w w None low (omega arith)) in (
-      c.add-step.array_long,
-      ap (λ (m : List ℕ). steps_from m (drop (w + 1) os)) c.add-step.ensures
+      c.add_step.array_long,
+      ap (λ (m : List ℕ). steps_from m (drop (w + 1) os)) c.add_step.ensures
           ∙ steps_one_on os c.loop-other.next w c.tree_step.result (omega (arith, length-map-range_with_len step 0 s.stations)) read
           ∙ c.loop-other.invariant.1,
     )

@@ -14,8 +14,8 @@ level_read f d h =
     let few = f.sheet.few in
     ap (λ (ls : List ℕ). get_or ls d 0) f.levelled ∙ level_at (held f.sheet) d (omega arith)
 
-pub first-of-level-found-requires : goal.first-of-level-found-requires
-first-of-level-found-requires c =
+pub first_of_level-found-requires : goal.first_of_level-found-requires
+first_of_level-found-requires c =
     let f = c.args.self.now in
     let d = c.loop-depth.depth in
     record {
@@ -23,20 +23,20 @@ first-of-level-found-requires c =
       level = subst (λ (x : ℕ). x < 2 ^ f.sheet.stations) (sym (level_read f d c.loop-depth.invariant.0)) (level_small (held f.sheet) d);
     }
 
-pub returns-then-is-some : goal.returns-then-is-some
-returns-then-is-some c =
+pub returns-then-is_some : goal.returns-then-is_some
+returns-then-is_some c =
     let f = c.args.self.now in
     let d = c.loop-depth.depth in
-    let is = c.first-of-level-found.ensures ∙ ap (λ (x : ℕ). first_around (held f.sheet) c.args.marked.now (rising x)) (level_read f d c.loop-depth.invariant.0) in
-    first_in_level (held f.sheet) c.args.marked.now d c.first-of-level-found.result c.loop-depth-test.true is (sym c.if-is-some.ensures)
+    let is = c.first_of_level-found.ensures ∙ ap (λ (x : ℕ). first_around (held f.sheet) c.args.marked.now (rising x)) (level_read f d c.loop-depth.invariant.0) in
+    first_in_level (held f.sheet) c.args.marked.now d c.first_of_level-found.result c.loop-depth-test.true is (sym c.if-is_some.ensures)
     ∙ c.loop-depth.invariant.1
 
 pub loop-depth-preserved : goal.loop-depth-preserved
 loop-depth-preserved c =
     let f = c.args.self.now in
     let d = c.loop-depth.depth in
-    let is = c.first-of-level-found.ensures ∙ ap (λ (x : ℕ). first_around (held f.sheet) c.args.marked.now (rising x)) (level_read f d c.loop-depth.invariant.0) in (
+    let is = c.first_of_level-found.ensures ∙ ap (λ (x : ℕ). first_around (held f.sheet) c.args.marked.now (rising x)) (level_read f d c.loop-depth.invariant.0) in (
       omega (arith, c.loop-depth.invariant.0),
-      first_in_next_level (held f.sheet) c.args.marked.now d c.first-of-level-found.result c.loop-depth-test.true is (sym c.if-is-some.ensures)
+      first_in_next_level (held f.sheet) c.args.marked.now d c.first_of_level-found.result c.loop-depth-test.true is (sym c.if-is_some.ensures)
           ∙ c.loop-depth.invariant.1,
     )

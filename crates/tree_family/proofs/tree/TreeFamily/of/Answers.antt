@@ -10,7 +10,7 @@ pub returns : goal.returns
 returns c =
     let s = c.args.sheet.now in
     let t = held s in
-    let some = c.if-not-has-tree.ensures in
+    let some = c.if-not-has_tree.ensures in
     let tree = planted_tree t (sheet_is_sound s) (sym some) in
     record {
       given = some;

@@ -10,8 +10,8 @@ use Rattle.tree_shape.proofs.Planted.{planted_tree}
 use Rattle.tree_family.proofs.Remaining.{reach_small, remaining_is}
 use Rattle.tree_family.proofs.tree.TreeFamily.remaining.Goals as goal
 
-pub reached-base-reaches-requires : goal.reached-base-reaches-requires
-reached-base-reaches-requires c =
+pub reached-base_reaches-requires : goal.reached-base_reaches-requires
+reached-base_reaches-requires c =
     let f = c.args.self.now in
     let s = f.sheet in
     record {
@@ -25,17 +25,17 @@ others-requires c =
     let f = c.args.self.now in
     let s = f.sheet in
     let few = s.few in
-    let is = c.reached-base-reaches.ensures.value ∙ ap (λ (m : List ℕ). reach_set m 0) c.beside.ensures in
+    let is = c.reached-base_reaches.ensures.value ∙ ap (λ (m : List ℕ). reach_set m 0) c.beside.ensures in
     let small = reach_small (held s) (sheet_is_sound s) (planted_tree (held s) (sheet_is_sound s) f.planted) c.args.marked.now c.told-marked c.requires.marked c.args.station c.requires.not_base c.requires.station in
     record {
       few = omega (arith, c.stations.ensures);
-      inside = subst (λ (n : ℕ). c.reached-base-reaches.result < 2 ^ n) (sym c.stations.ensures) (subst (λ (r : ℕ). r < 2 ^ s.stations) (sym is) small);
+      inside = subst (λ (n : ℕ). c.reached-base_reaches.result < 2 ^ n) (sym c.stations.ensures) (subst (λ (r : ℕ). r < 2 ^ s.stations) (sym is) small);
     }
 
 pub returns : goal.returns
 returns c =
     let f = c.args.self.now in
     let s = f.sheet in
-    let is = c.reached-base-reaches.ensures.value ∙ ap (λ (m : List ℕ). reach_set m 0) c.beside.ensures in
+    let is = c.reached-base_reaches.ensures.value ∙ ap (λ (m : List ℕ). reach_set m 0) c.beside.ensures in
     c.others.ensures ∙ ap₂ others c.stations.ensures is
     ∙ remaining_is (held s) (sheet_is_sound s) (planted_tree (held s) (sheet_is_sound s) f.planted) c.args.marked.now c.told-marked c.requires.marked c.args.station c.requires.not_base c.requires.station

@@ -13,20 +13,20 @@ use Rattle.tree_family.proofs.tree.TreeFamilyFamily.TheImpl.Goals as goal
 tree_in : (f : TreeFamily) → SpanningTree f.sheet.stations f.sheet.links.slots (tree_of (held f.sheet))
 tree_in f = planted_tree (held f.sheet) (sheet_is_sound f.sheet) f.planted
 
-pub common-part-law : goal.common-part-law
-common-part-law f x y s p q i j = tree_member_and f.sheet.stations f.sheet.links.slots (tree_of (held f.sheet)) (tree_in f) x y s p q i j
+pub common_part-law : goal.common_part-law
+common_part-law f x y s p q i j = tree_member_and f.sheet.stations f.sheet.links.slots (tree_of (held f.sheet)) (tree_in f) x y s p q i j
 
 pub union-law : goal.union-law
 union-law f x y s p q i j = tree_member_or f.sheet.stations f.sheet.links.slots (tree_of (held f.sheet)) (tree_in f) x y s p q i j
 
-pub smallest-found-law : goal.smallest-found-law
-smallest-found-law f h marks set sound right e = tree_smallest_found (held f.sheet) h (sheet_is_sound f.sheet) (tree_in f) sound right marks set e
+pub smallest_found-law : goal.smallest_found-law
+smallest_found-law f h marks set sound right e = tree_smallest_found (held f.sheet) h (sheet_is_sound f.sheet) (tree_in f) sound right marks set e
 
-pub smallest-none-law : goal.smallest-none-law
-smallest-none-law f h marks set sound right e member = tree_smallest_none (held f.sheet) h (sheet_is_sound f.sheet) (tree_in f) sound right marks set e member
+pub smallest_none-law : goal.smallest_none-law
+smallest_none-law f h marks set sound right e member = tree_smallest_none (held f.sheet) h (sheet_is_sound f.sheet) (tree_in f) sound right marks set e member
 
-pub largest-found-law : goal.largest-found-law
-largest-found-law f h marks set sound right e = tree_largest_found (held f.sheet) h (sheet_is_sound f.sheet) (tree_in f) sound right marks set e
+pub largest_found-law : goal.largest_found-law
+largest_found-law f h marks set sound right e = tree_largest_found (held f.sheet) h (sheet_is_sound f.sheet) (tree_in f) sound right marks set e
 
-pub largest-none-law : goal.largest-none-law
-largest-none-law f h marks set sound right e member = tree_largest_none (held f.sheet) h (sheet_is_sound f.sheet) (tree_in f) sound right marks set e member
+pub largest_none-law : goal.largest_none-law
+largest_none-law f h marks set sound right e member = tree_largest_none (held f.sheet) h (sheet_is_sound f.sheet) (tree_in f) sound right marks set e member
