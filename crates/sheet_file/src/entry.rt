@@ -16,15 +16,15 @@ pub struct LinkRecord<T> {
 
 /// How many records a section holds.
 pub fn count_records<T: Amount>(records: &[u8]) -> usize
-    ensures { result ≡ length records.now / length_of_record width }
+    ensures { result ≡ length records.now / length_of_record T.width }
 {
     records.len() / T::record_length()
 }
 
 /// The record of a place.
 pub fn record_at<T: Amount>(records: &[u8], place: usize) -> LinkRecord<T>
-    requires { place * length_of_record width + length_of_record width ≤ length records.now }
-    ensures { ◌≡◌ {A = Entry} (record { number = result.number; tail = result.tail; head = result.head; price = parts result.price }) (entry_at width records.now place) }
+    requires { place * length_of_record T.width + length_of_record T.width ≤ length records.now }
+    ensures { ◌≡◌ {A = Entry} (record { number = result.number; tail = result.tail; head = result.head; price = T.parts result.price }) (entry_at T.width records.now place) }
 {
     let size = T::record_length();
     let start = place * size;
@@ -34,8 +34,8 @@ pub fn record_at<T: Amount>(records: &[u8], place: usize) -> LinkRecord<T>
 
 /// The record that these bytes are.
 fn read_record<T: Amount>(bytes: &[u8]) -> LinkRecord<T>
-    requires { length bytes.now ≡ length_of_record width }
-    ensures { ◌≡◌ {A = Entry} (record { number = result.number; tail = result.tail; head = result.head; price = parts result.price }) (entry_of width bytes.now) }
+    requires { length bytes.now ≡ length_of_record T.width }
+    ensures { ◌≡◌ {A = Entry} (record { number = result.number; tail = result.tail; head = result.head; price = T.parts result.price }) (entry_of T.width bytes.now) }
 {
     LinkRecord {
         number: u16::from(bytes[0]),

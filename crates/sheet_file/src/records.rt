@@ -15,7 +15,7 @@ use sheet::Sheet;
 /// Puts the links of all records on a sheet, or tells which record was refused and by what number.
 pub fn place_records<T: Amount>(sheet: &mut Sheet, records: &[u8]) -> Result<(), Refusal>
     requires { length records.now ≤ 4096 }
-    ensures { result_map_both (λ _. held sheet.new) (λ e. e) result ≡ placing 0 (held sheet.old) (entries_from width records.now 0 (length records.now / length_of_record width)) }
+    ensures { result_map_both (λ _. held sheet.new) (λ e. e) result ≡ placing 0 (held sheet.old) (entries_from T.width records.now 0 (length records.now / length_of_record T.width)) }
 {
     for place in 0..count_records::<T>(records) {
         let link = record_at::<T>(records, place);
@@ -28,9 +28,9 @@ pub fn place_records<T: Amount>(sheet: &mut Sheet, records: &[u8]) -> Result<(),
 
 /// Writes the price of every record into the column, at its number.
 pub fn write_prices<T: Amount>(prices: &mut [T], records: &[u8])
-    requires { (place : ℕ) → place < length records.now / length_of_record width → (entry_at width records.now place).number < length prices.old }
-    ensures written { map parts prices.new ≡ writing (map parts prices.old) (entries_from width records.now 0 (length records.now / length_of_record width)) }
-    ensures untouched { (k : ℕ) (d : T) → mentions k (entries_from width records.now 0 (length records.now / length_of_record width)) ≡ false → slice_index_or prices.new k d ≡ slice_index_or prices.old k d }
+    requires { (place : ℕ) → place < length records.now / length_of_record T.width → (entry_at T.width records.now place).number < length prices.old }
+    ensures written { map T.parts prices.new ≡ writing (map T.parts prices.old) (entries_from T.width records.now 0 (length records.now / length_of_record T.width)) }
+    ensures untouched { (k : ℕ) (d : T) → mentions k (entries_from T.width records.now 0 (length records.now / length_of_record T.width)) ≡ false → slice_index_or prices.new k d ≡ slice_index_or prices.old k d }
 {
     for place in 0..count_records::<T>(records) {
         let link = record_at::<T>(records, place);

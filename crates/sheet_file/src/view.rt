@@ -20,7 +20,7 @@ pub struct SheetFile<'a> {
 
 /// The view of a file of this kind of amount, or what is wrong with its head and its sections.
 pub fn view<'a, T: Amount>(file: &'a [u8]) -> Result<SheetFile<'a>, Refusal>
-    ensures refusal { result_err result ≡ first (file_checks width byte file.now) }
+    ensures refusal { result_err result ≡ first (file_checks T.width T.byte file.now) }
     ensures stations { IfOk result (λ v. v.stations ≡ stations_of file.now) }
     ensures records { IfOk result (λ v. v.records.now ≡ bytes_of file.now (records_section file.now)) }
     ensures tree { IfOk result (λ v. v.tree.now ≡ bytes_of file.now (tree_section file.now)) }
