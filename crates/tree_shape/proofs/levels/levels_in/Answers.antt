@@ -24,8 +24,8 @@ depth_is_place c =
 pub bounds-levels-depth : goal.bounds-levels-depth
 bounds-levels-depth c = depth_is_place c
 
-pub bounds-levels-depth_in-loop-station : goal.bounds-levels-depth_in-loop-station
-bounds-levels-depth_in-loop-station c = depth_is_place c
+pub bounds-levels-depth-in-loop-station : goal.bounds-levels-depth-in-loop-station
+bounds-levels-depth-in-loop-station c = depth_is_place c
 
 pub loop-station-preserved : goal.loop-station-preserved
 loop-station-preserved c =
