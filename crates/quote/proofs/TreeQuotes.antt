@@ -17,8 +17,8 @@ use Rattle.stages.proofs.Asking.{LawfulFamily, lawful_of}
 use Rattle.stages.proofs.Lawful.{Lawful, some_or_none, link_is_placed}
 use Rattle.tree_family.specs.Choices.{tree_smallest, tree_largest}
 use Rattle.tree_family.specs.Members.{Member}
-use Rattle.tree_family.proofs.Largest.{tree_largest_found, tree_largest_none}
-use Rattle.tree_family.proofs.Smallest.{tree_smallest_found, tree_smallest_none}
+use Rattle.tree_family.specs.Largest.{tree_largest_found, tree_largest_none}
+use Rattle.tree_family.specs.Smallest.{tree_smallest_found, tree_smallest_none}
 use Rattle.tree_shape.specs.Trees.{tree_of}
 use Rattle.tree_shape.proofs.Planted.{planted_tree}
 use Rattle.quote.specs.Quotes.{quote_asked}

@@ -15,7 +15,7 @@ use sheet::Sheet;
 
 /// Whether nothing is left of an amount that is not below nothing.
 fn is_spent<T: Amount>(left: T) -> bool
-    ensures { result ≡ spent width (parts left) }
+    ensures { result ≡ spent T.width (T.parts left) }
 {
     !T::nothing().is_below(left)
 }
@@ -36,8 +36,8 @@ pub fn copy_prices<T: Amount>(sheet: &Sheet, prices: &[T], left: &mut [T])
 /// The links that have nothing left at first.
 pub fn used_up_at_first<T: Amount>(sheet: &Sheet, left: &[T]) -> UsedUp
     requires { length left.now ≡ 200 }
-    ensures marks { result.marks ≡ for_each (λ k. (if spent_link width sheet.now.links.slots (map parts left.now) k then 1 else 0)) }
-    ensures order { take result.count result.order ≡ filter (spent_link width sheet.now.links.slots (map parts left.now)) (range_with_len 0 200) }
+    ensures marks { result.marks ≡ for_each (λ k. (if spent_link T.width sheet.now.links.slots (map T.parts left.now) k then 1 else 0)) }
+    ensures order { take result.count result.order ≡ filter (spent_link T.width sheet.now.links.slots (map T.parts left.now)) (range_with_len 0 200) }
 {
     let mut used = UsedUp::none();
     for k in 0..LINKS as u16 {
@@ -53,11 +53,11 @@ pub fn used_up_at_first<T: Amount>(sheet: &Sheet, left: &[T]) -> UsedUp
 pub fn lower<T: Amount>(sheet: &Sheet, left: &mut [T], used: &mut UsedUp, set: u64, amount: T)
     requires sized { length left.old ≡ 200 }
     requires unused { (k : ℕ) → enters_at sheet.now.links.slots k set ≡ true → slice_index used.old.marks k ≡ 0 }
-    requires fits { (k : ℕ) → enters_at sheet.now.links.slots k set ≡ true → Fitting (minus (slice_index_or (map parts left.old) k []) (parts amount)) }
-    ensures lowered { (k : ℕ) → k < 200 → enters_at sheet.now.links.slots k set ≡ true → slice_index_or (map parts left.new) k [] ≡ minus (slice_index_or (map parts left.old) k []) (parts amount) }
+    requires fits { (k : ℕ) → enters_at sheet.now.links.slots k set ≡ true → Fitting (minus (slice_index_or (map T.parts left.old) k []) (T.parts amount)) }
+    ensures lowered { (k : ℕ) → k < 200 → enters_at sheet.now.links.slots k set ≡ true → slice_index_or (map T.parts left.new) k [] ≡ minus (slice_index_or (map T.parts left.old) k []) (T.parts amount) }
     ensures others { (k : ℕ) (d : T) → enters_at sheet.now.links.slots k set ≡ false → slice_index_or left.new k d ≡ slice_index_or left.old k d }
-    ensures marks { used.new.marks ≡ for_each (λ k. (if gone width sheet.now.links.slots (map parts left.old) set (parts amount) k then 1 else slice_index used.old.marks k)) }
-    ensures order { take used.new.count used.new.order ≡ take used.old.count used.old.order ++ filter (gone width sheet.now.links.slots (map parts left.old) set (parts amount)) (range_with_len 0 200) }
+    ensures marks { used.new.marks ≡ for_each (λ k. (if gone T.width sheet.now.links.slots (map T.parts left.old) set (T.parts amount) k then 1 else slice_index used.old.marks k)) }
+    ensures order { take used.new.count used.new.order ≡ take used.old.count used.old.order ++ filter (gone T.width sheet.now.links.slots (map T.parts left.old) set (T.parts amount)) (range_with_len 0 200) }
 {
     for k in 0..LINKS as u16 {
         if enters(sheet.link(k), set) {
@@ -71,11 +71,11 @@ fn lower_link<T: Amount>(left: &mut [T], used: &mut UsedUp, k: u16, amount: T)
     requires sized { length left.old ≡ 200 }
     requires within { k < 200 }
     requires unused { slice_index used.old.marks k ≡ 0 }
-    requires fits { Fitting (minus (slice_index_or (map parts left.old) k []) (parts amount)) }
-    ensures lowered { map parts left.new ≡ set (map parts left.old) k (minus (slice_index_or (map parts left.old) k []) (parts amount)) }
+    requires fits { Fitting (minus (slice_index_or (map T.parts left.old) k []) (T.parts amount)) }
+    ensures lowered { map T.parts left.new ≡ set (map T.parts left.old) k (minus (slice_index_or (map T.parts left.old) k []) (T.parts amount)) }
     ensures others { (j : ℕ) (d : T) → (j ≢ k) → slice_index_or left.new j d ≡ slice_index_or left.old j d }
-    ensures marks { used.new.marks ≡ (if spent width (minus (slice_index_or (map parts left.old) k []) (parts amount)) then set used.old.marks k 1 else used.old.marks) }
-    ensures order { take used.new.count used.new.order ≡ take used.old.count used.old.order ++ (if spent width (minus (slice_index_or (map parts left.old) k []) (parts amount)) then k ∷ [] else []) }
+    ensures marks { used.new.marks ≡ (if spent T.width (minus (slice_index_or (map T.parts left.old) k []) (T.parts amount)) then set used.old.marks k 1 else used.old.marks) }
+    ensures order { take used.new.count used.new.order ≡ take used.old.count used.old.order ++ (if spent T.width (minus (slice_index_or (map T.parts left.old) k []) (T.parts amount)) then k ∷ [] else []) }
 {
     let rest = left[k as usize].minus(amount);
     left[k as usize] = rest;

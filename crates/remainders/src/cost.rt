@@ -10,8 +10,8 @@ use digraph::table::LINKS;
 /// The sum of the prices of the marked links.
 pub fn cost_of_marked<T: Amount>(prices: &[T], marks: &[u8; LINKS]) -> T
     requires sized { length prices.now ≡ 200 }
-    requires small { (k : ℕ) → marked marks.now k ≡ true → lies_within 100000 (slice_index_or (map parts prices.now) k []) ≡ true }
-    ensures { parts result ≡ summed width (λ k. (if marked marks.now k then slice_index_or (map parts prices.now) k [] else no_amount width)) 200 }
+    requires small { (k : ℕ) → marked marks.now k ≡ true → lies_within 100000 (slice_index_or (map T.parts prices.now) k []) ≡ true }
+    ensures { T.parts result ≡ summed T.width (λ k. (if marked marks.now k then slice_index_or (map T.parts prices.now) k [] else no_amount T.width)) 200 }
 {
     let mut total = T::nothing();
     for k in 0..LINKS {

@@ -11,7 +11,7 @@ use sheet::Sheet;
 /// Of the links that enter `set` the one with least left, the lowest number among equals.
 pub fn tightest<T: Amount>(sheet: &Sheet, left: &[T], set: u64) -> Option<u16>
     requires { length left.now ≡ 200 }
-    ensures { result ≡ tightest_of sheet.now.links.slots (map parts left.now) set }
+    ensures { result ≡ tightest_of sheet.now.links.slots (map T.parts left.now) set }
 {
     let mut best = None;
     for k in 0..LINKS as u16 {
@@ -27,7 +27,7 @@ fn tighter<T: Amount>(left: &[T], best: Option<u16>, k: u16) -> Option<u16>
     requires sized { length left.now ≡ 200 }
     requires numbered { Numbered best }
     requires within { k < 200 }
-    ensures { result ≡ tighter_of (map parts left.now) best k }
+    ensures { result ≡ tighter_of (map T.parts left.now) best k }
 {
     match best {
         Some(j) if !left[k as usize].is_below(left[j as usize]) => best,

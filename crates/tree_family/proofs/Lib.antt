@@ -1,9 +1,2 @@
-pub mod Besides
-pub mod Firsts
-pub mod Largest
-pub mod MarkedSteps
 pub mod Mosts
 pub mod Pathways
-pub mod Remaining
-pub mod Searched
-pub mod Smallest

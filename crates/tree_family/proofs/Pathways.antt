@@ -18,9 +18,9 @@ use Rattle.tree_shape.specs.Trees.{tree_of, parent_of}
 use Rattle.tree_shape.proofs.Planted.{planted_tree}
 use Rattle.tree_family.specs.Choices.{beside, around, remaining}
 use Rattle.tree_family.specs.Meanings.{Step, Below, Asked}
-use Rattle.tree_family.proofs.MarkedSteps.{marked_steps_sized}
-use Rattle.tree_family.proofs.Remaining.{closed, reach_small, in_outside, outside_in_reach, left_below, remaining_is}
-use Rattle.tree_family.proofs.Searched.{asked_proper, steps_inside, step→forth, base, around_reaches, base_reaches}
+use Rattle.tree_family.specs.MarkedSteps.{marked_steps_sized}
+use Rattle.tree_family.specs.Remaining.{closed, reach_small, in_outside, outside_in_reach, left_below, remaining_is}
+use Rattle.tree_family.specs.Searched.{asked_proper, steps_inside, step→forth, base, around_reaches, base_reaches}
 
 module _ (t h : Held) (marks : List ℕ) (v : ℕ) (asked : Asked t h v) where
   tree : SpanningTree t.stations t.links (tree_of t)

@@ -1,3 +1,10 @@
-pub mod Members
+pub mod Besides
 pub mod Choices
+pub mod Firsts
+pub mod Largest
+pub mod MarkedSteps
 pub mod Meanings
+pub mod Members
+pub mod Remaining
+pub mod Searched
+pub mod Smallest

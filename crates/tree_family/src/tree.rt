@@ -6,8 +6,12 @@ ghost use Rattle.sheet.specs.Held.{held};
 ghost use Rattle.tree_family.specs.Members.{Member, below};
 ghost use Rattle.tree_shape.specs.Trees.{parents_of, levels_of, tree_of};
 ghost use Rattle.tree_family.specs.Choices.{tree_smallest, tree_largest, Inside, step_of_tree as tree_step_of, beside as beside_of, around as around_of, first_around, deepest_first, remaining as remaining_of, candidate, most_from};
-ghost use Rattle.std.proofs.Common.{arith, rules};
-ghost use Rattle.cuts.proofs.TreeFamily.{tree_member_not_empty};
+ghost use Rattle.std.proofs.Common.{arith};
+ghost use Rattle.cuts.proofs.TreeFamily.{tree_member_not_empty, tree_member_and, tree_member_or};
+ghost use Rattle.sheet.proofs.Sounds.{sheet_is_sound};
+ghost use Rattle.tree_shape.proofs.Planted.{planted_tree};
+ghost use Rattle.tree_family.specs.Smallest.{tree_smallest_found, tree_smallest_none};
+ghost use Rattle.tree_family.specs.Largest.{tree_largest_found, tree_largest_none};
 ghost use Rattle.family.specs.Feeds.{none_for_other_size};
 
 use digraph::link::Link;
@@ -172,19 +176,19 @@ impl Family for TreeFamily {
         let some = (tree_member_not_empty f.sheet.stations f.sheet.links.slots (tree_of (held f.sheet)) set member).2 in
         omega arith };
 
-    ghost common_part = { first_of (Prim.search rules, Prim.grind (arith, Self.row.coded.inj)) };
+    ghost common_part = { λ f x y s p q i j. tree_member_and f.sheet.stations f.sheet.links.slots (tree_of (held f.sheet)) (planted_tree (held f.sheet) (sheet_is_sound f.sheet) f.planted) x y s p q i j };
 
-    ghost union = { first_of (Prim.search rules, Prim.grind (arith, Self.row.coded.inj)) };
+    ghost union = { λ f x y s p q i j. tree_member_or f.sheet.stations f.sheet.links.slots (tree_of (held f.sheet)) (planted_tree (held f.sheet) (sheet_is_sound f.sheet) f.planted) x y s p q i j };
 
-    ghost smallest_found = { first_of (Prim.search rules, Prim.grind (arith, Self.row.coded.inj)) };
+    ghost smallest_found = { λ f h marks set sound right e. tree_smallest_found (held f.sheet) h (sheet_is_sound f.sheet) (planted_tree (held f.sheet) (sheet_is_sound f.sheet) f.planted) sound right marks set e };
 
-    ghost smallest_none = { first_of (Prim.search rules, Prim.grind (arith, Self.row.coded.inj)) };
+    ghost smallest_none = { λ f h marks set sound right e member. tree_smallest_none (held f.sheet) h (sheet_is_sound f.sheet) (planted_tree (held f.sheet) (sheet_is_sound f.sheet) f.planted) sound right marks set e member };
 
     ghost smallest_elsewhere = { λ f h marks other. none_for_other_size f.sheet.stations h _ other };
 
-    ghost largest_found = { first_of (Prim.search rules, Prim.grind (arith, Self.row.coded.inj)) };
+    ghost largest_found = { λ f h marks set sound right e. tree_largest_found (held f.sheet) h (sheet_is_sound f.sheet) (planted_tree (held f.sheet) (sheet_is_sound f.sheet) f.planted) sound right marks set e };
 
-    ghost largest_none = { first_of (Prim.search rules, Prim.grind (arith, Self.row.coded.inj)) };
+    ghost largest_none = { λ f h marks set sound right e member. tree_largest_none (held f.sheet) h (sheet_is_sound f.sheet) (planted_tree (held f.sheet) (sheet_is_sound f.sheet) f.planted) sound right marks set e member };
 
     ghost largest_elsewhere = { λ f h marks other. none_for_other_size f.sheet.stations h _ other };
 

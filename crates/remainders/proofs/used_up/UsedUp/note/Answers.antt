@@ -10,13 +10,7 @@ bounds-self-self c =
 
 pub invariant_of-self : goal.invariant_of-self
 invariant_of-self c =
-    let s = c.args.self.now in (
-      length-set s.marks c.args.k 1 ∙ s.sized,
-      (
-        length-set s.order s.count c.args.k ∙ s.long,
-        ((room_for_one s.marks s.count c.args.k s.sized s.room c.requires.within c.requires.fresh).1, tt),
-      ),
-    )
+    let s = c.args.self.now in record { sized = length-set s.marks c.args.k 1 ∙ s.sized; long = length-set s.order s.count c.args.k ∙ s.long; room = (room_for_one s.marks s.count c.args.k s.sized s.room c.requires.within c.requires.fresh).1 }
 
 pub returns : goal.returns
 returns c =

@@ -2,7 +2,7 @@ use Rattle.std.proofs.Common.{◌^◌, ◌<◌, get_or, sym, subst, arith}
 use Rattle.sheet.specs.Held.{held}
 use Rattle.sheet.proofs.Sounds.{sheet_is_sound}
 use Rattle.family.specs.declared.reach.Direction.TheVariants.{Back}
-use Rattle.tree_family.proofs.Besides.{beside_low}
+use Rattle.tree_family.specs.Besides.{beside_low}
 use Rattle.tree_shape.proofs.Planted.{planted_tree}
 use Rattle.tree_family.proofs.tree.TreeFamily.around.Goals as goal
 

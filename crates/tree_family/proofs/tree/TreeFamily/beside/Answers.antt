@@ -7,7 +7,7 @@ use Rattle.digraph.proofs.Stepping.{steps_one_on}
 use Rattle.sheet.specs.Held.{held}
 use Rattle.sheet.proofs.Sounds.{sheet_is_sound}
 use Rattle.tree_family.specs.Choices.{step_of_tree, beside}
-use Rattle.tree_family.proofs.Besides.{tree_step_low}
+use Rattle.tree_family.specs.Besides.{tree_step_low}
 use Rattle.tree_shape.proofs.Planted.{planted_tree}
 use Rattle.tree_family.proofs.tree.TreeFamily.beside.Goals as goal
 

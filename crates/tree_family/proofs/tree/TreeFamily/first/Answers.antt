@@ -4,7 +4,7 @@ use Rattle.sheet.specs.Held.{held}
 use Rattle.tree_family.specs.Choices.{first_around}
 use Rattle.tree_shape.specs.Trees.{level}
 use Rattle.tree_family.specs.declared.tree.TreeFamily.{TreeFamily}
-use Rattle.tree_family.proofs.Firsts.{first_in_level, first_in_next_level}
+use Rattle.tree_family.specs.Firsts.{first_in_level, first_in_next_level}
 use Rattle.tree_shape.proofs.Climbs.{level_at, level_small}
 use Rattle.tree_family.proofs.tree.TreeFamily.first.Goals as goal
 

@@ -5,7 +5,7 @@ use Rattle.std.proofs.lemmas.Nat.{one_shl}
 use Rattle.stations.specs.Sets.{rising}
 use Rattle.sheet.specs.Held.{held}
 use Rattle.tree_family.specs.Choices.{first_around}
-use Rattle.tree_family.proofs.Firsts.{lowest_below, without_lowest_less, first_here, first_later, first_of_none}
+use Rattle.tree_family.specs.Firsts.{lowest_below, without_lowest_less, first_here, first_later, first_of_none}
 use Rattle.tree_family.proofs.tree.TreeFamily.first_of_level.Goals as goal
 
 pub around-set-requires : goal.around-set-requires

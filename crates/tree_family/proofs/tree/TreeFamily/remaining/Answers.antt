@@ -5,9 +5,9 @@ use Rattle.sheet.proofs.Sounds.{sheet_is_sound}
 use Rattle.family.specs.Choices.{others}
 use Rattle.family.specs.declared.reach.Direction.TheVariants.{Forth}
 use Rattle.tree_family.specs.Choices.{beside}
-use Rattle.tree_family.proofs.Besides.{beside_low}
+use Rattle.tree_family.specs.Besides.{beside_low}
 use Rattle.tree_shape.proofs.Planted.{planted_tree}
-use Rattle.tree_family.proofs.Remaining.{reach_small, remaining_is}
+use Rattle.tree_family.specs.Remaining.{reach_small, remaining_is}
 use Rattle.tree_family.proofs.tree.TreeFamily.remaining.Goals as goal
 
 pub reached-base_reaches-requires : goal.reached-base_reaches-requires

@@ -5,7 +5,7 @@ use Rattle.family.specs.declared.reach.Direction.{Direction}
 use Rattle.family.specs.declared.reach.Direction.TheVariants.{Forth, Back}
 use Rattle.tree_family.specs.Choices.{step_of_tree}
 use Rattle.tree_shape.specs.Trees.{parent_of}
-use Rattle.tree_family.proofs.Besides.{tree_step_given}
+use Rattle.tree_family.specs.Besides.{tree_step_given}
 use Rattle.tree_shape.proofs.Noting.{parent_at}
 use Rattle.tree_family.proofs.tree.TreeFamily.tree_step.Goals as goal
 

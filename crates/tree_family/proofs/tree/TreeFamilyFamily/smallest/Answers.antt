@@ -3,7 +3,7 @@ use Rattle.sheet.specs.Held.{held}
 use Rattle.sheet.proofs.Sounds.{sheet_is_sound}
 use Rattle.family.specs.declared.reach.Direction.TheVariants.{Back}
 use Rattle.tree_family.specs.Choices.{Inside}
-use Rattle.tree_family.proofs.MarkedSteps.{marked_steps_inside}
+use Rattle.tree_family.specs.MarkedSteps.{marked_steps_inside}
 use Rattle.tree_family.proofs.tree.TreeFamilyFamily.smallest.Goals as goal
 
 pub first-requires : goal.first-requires

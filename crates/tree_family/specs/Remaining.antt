@@ -18,7 +18,7 @@ use Rattle.cuts.proofs.Parents.{climb_from_base, depth_0→base, depth_of_base, 
 use Rattle.tree_family.specs.Choices.{beside, Inside, remaining}
 use Rattle.tree_family.specs.Members.{below}
 use Rattle.tree_shape.specs.Trees.{tree_of, parent_of, depth_of}
-use Rattle.tree_family.proofs.Besides.{beside→either, either→beside, beside_low}
+use Rattle.tree_family.specs.Besides.{beside→either, either→beside, beside_low}
 
 module _ (t : Held) (sound : Sound t) (tree : SpanningTree t.stations t.links (tree_of t)) (marked : List ℕ) (sized : length marked ≡ 40) (inside : Inside t.stations marked)
     (v : ℕ) (pos : 0 < v) (station : v < t.stations) where

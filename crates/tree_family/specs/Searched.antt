@@ -21,8 +21,8 @@ use Rattle.cuts.proofs.Parents.{parent_leads, parent_unique}
 use Rattle.cuts.proofs.TwoTables.{BesideStep, joined, behind, within_first, searched_back, searched_on, rest_has_head}
 use Rattle.tree_family.specs.Choices.{Inside, beside, around}
 use Rattle.tree_shape.specs.Trees.{tree_of, parent_of}
-use Rattle.tree_family.proofs.Besides.{OtherLink, beside→either, either→beside, beside_low}
-use Rattle.tree_family.proofs.MarkedSteps.{marked_steps_sized, marked_steps_inside}
+use Rattle.tree_family.specs.Besides.{OtherLink, beside→either, either→beside, beside_low}
+use Rattle.tree_family.specs.MarkedSteps.{marked_steps_sized, marked_steps_inside}
 
 module _ (t h : Held) (sound : Sound t) (tree : SpanningTree t.stations t.links (tree_of t)) (asked : Sound h) (right : h.stations ≡ t.stations) (marks : List ℕ) where
   once : OneIntoEach t.stations t.links (tree_of t)

@@ -22,9 +22,9 @@ use Rattle.cuts.proofs.TwoTables.{most→greatest, none_left→entered}
 use Rattle.tree_family.specs.Choices.{Inside, beside, remaining, more, candidate, most_from, tree_largest}
 use Rattle.tree_family.specs.Members.{Member}
 use Rattle.tree_shape.specs.Trees.{tree_of}
-use Rattle.tree_family.proofs.MarkedSteps.{marked_steps_sized, marked_steps_inside}
-use Rattle.tree_family.proofs.Remaining.{remaining_is}
-use Rattle.tree_family.proofs.Searched.{asked_proper, base_reaches, left_has_head}
+use Rattle.tree_family.specs.MarkedSteps.{marked_steps_sized, marked_steps_inside}
+use Rattle.tree_family.specs.Remaining.{remaining_is}
+use Rattle.tree_family.specs.Searched.{asked_proper, base_reaches, left_has_head}
 
 -- ---- the best candidate among the first stations
 

@@ -22,8 +22,8 @@ use Rattle.cuts.proofs.TwoTables.{deepest→least, all_with_base→entered}
 use Rattle.tree_family.specs.Choices.{around, first_around, deepest_first, tree_smallest}
 use Rattle.tree_family.specs.Members.{Member}
 use Rattle.tree_shape.specs.Trees.{tree_of, depth_of, level}
-use Rattle.tree_family.proofs.Firsts.{first_behind, first_in_front}
-use Rattle.tree_family.proofs.Searched.{asked_proper, around_reaches}
+use Rattle.tree_family.specs.Firsts.{first_behind, first_in_front}
+use Rattle.tree_family.specs.Searched.{asked_proper, around_reaches}
 
 -- ---- the first of a list
 
