@@ -34,11 +34,11 @@ pub fn cover<T: Amount, F: Family>(
     amounts: &mut [T],
     marks: &mut [u8],
 ) -> Result<Cover<T>, Refusal>
-    ensures refusal { result_err result ≡ first (cover_checks (held sheet.now) (asked_of width (held sheet.now) (map parts prices.now) (small family.now) (large family.now)) (size family.now) (memory_sized (memory left.old sets.old amounts.old marks.old))) }
+    ensures refusal { result_err result ≡ first (cover_checks (held sheet.now) (asked_of T.width (held sheet.now) (map T.parts prices.now) (F.small family.now) (F.large family.now)) (F.size family.now) (memory_sized (memory left.old sets.old amounts.old marks.old))) }
     ensures untouched { is_ok result ≡ false → memory left.new sets.new amounts.new marks.new ≡ memory left.old sets.old amounts.old marks.old }
-    ensures filled { IfOk result (λ c. Filled parts (asked_of width (held sheet.now) (map parts prices.now) (small family.now) (large family.now)) (memory left.old sets.old amounts.old marks.old) (memory left.new sets.new amounts.new marks.new) c.sets (parts c.cost)) }
-    ensures small { IfOk result (λ c. Small parts (asked_of width (held sheet.now) (map parts prices.now) (small family.now) (large family.now)) (room left.new sets.new amounts.new) c.sets) }
-    ensures cheapest { IfOk result (λ c. CheapestCover (asked_of width (held sheet.now) (map parts prices.now) (small family.now) (large family.now)) (member family.now) marks.new (parts c.cost)) }
+    ensures filled { IfOk result (λ c. Filled T.parts (asked_of T.width (held sheet.now) (map T.parts prices.now) (F.small family.now) (F.large family.now)) (memory left.old sets.old amounts.old marks.old) (memory left.new sets.new amounts.new marks.new) c.sets (T.parts c.cost)) }
+    ensures small { IfOk result (λ c. Small T.parts (asked_of T.width (held sheet.now) (map T.parts prices.now) (F.small family.now) (F.large family.now)) (room left.new sets.new amounts.new) c.sets) }
+    ensures cheapest { IfOk result (λ c. CheapestCover (asked_of T.width (held sheet.now) (map T.parts prices.now) (F.small family.now) (F.large family.now)) (F.member family.now) marks.new (T.parts c.cost)) }
 {
     sheet.check_column(prices)?;
     let memory_fits = left.len() == LINKS

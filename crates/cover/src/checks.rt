@@ -13,7 +13,7 @@ use sheet::Sheet;
 /// The checks of the memory and of the family: its size, its number of stations, and that links of the
 /// sheet enter every member.
 pub fn check_family<F: Family>(sheet: &Sheet, family: &F, memory_fits: bool) -> Result<(), Refusal>
-    ensures { result_err result ≡ first (family_checks (held sheet.now) (small family.now (held sheet.now)) (size family.now) memory_fits) }
+    ensures { result_err result ≡ first (family_checks (held sheet.now) (F.small family.now (held sheet.now)) (F.size family.now) memory_fits) }
 {
     if !memory_fits {
         return Err(Refusal::MemorySize);

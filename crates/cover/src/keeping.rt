@@ -9,7 +9,7 @@ use sheet::Sheet;
 
 /// Stage 3. By falling number, drops each marked link without which every member is still entered.
 pub fn keep<F: Family>(sheet: &Sheet, family: &F, marks: &mut [u8; LINKS])
-    ensures { marks.new ≡ kept_of (large family.now (held sheet.now)) marks.old 200 }
+    ensures { marks.new ≡ kept_of (F.large family.now (held sheet.now)) marks.old 200 }
 {
     for k in (0..LINKS).rev() {
         spare(sheet, family, marks, k);
@@ -19,7 +19,7 @@ pub fn keep<F: Family>(sheet: &Sheet, family: &F, marks: &mut [u8; LINKS])
 /// Drops link `k`, if it is marked and every member is still entered without it.
 fn spare<F: Family>(sheet: &Sheet, family: &F, marks: &mut [u8; LINKS], k: usize)
     requires { k < 200 }
-    ensures { marks.new ≡ spared (large family.now (held sheet.now)) marks.old k }
+    ensures { marks.new ≡ spared (F.large family.now (held sheet.now)) marks.old k }
 {
     let mark = marks[k];
     if mark == 0 {

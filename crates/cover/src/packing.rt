@@ -30,11 +30,11 @@ pub fn pack<T: Amount, F: Family>(
     sets: &mut [u64],
     amounts: &mut [T],
 ) -> Packing
-    requires ready { Ready (held sheet.now) (asked_of width (held sheet.now) (map parts prices.now) (small family.now) (large family.now)) (size family.now) }
+    requires ready { Ready (held sheet.now) (asked_of T.width (held sheet.now) (map T.parts prices.now) (F.small family.now) (F.large family.now)) (F.size family.now) }
     requires memory { room_sized (room left.old sets.old amounts.old) ≡ true }
-    ensures stops { StopsAfter (answer_after (asked_of width (held sheet.now) (map parts prices.now) (small family.now) (large family.now))) result.sets }
-    ensures order { take result.used.count result.used.order ≡ order_after (asked_of width (held sheet.now) (map parts prices.now) (small family.now) (large family.now)) result.sets }
-    ensures filled { RoomFilled parts (asked_of width (held sheet.now) (map parts prices.now) (small family.now) (large family.now)) (room left.old sets.old amounts.old) (room left.new sets.new amounts.new) result.sets }
+    ensures stops { StopsAfter (answer_after (asked_of T.width (held sheet.now) (map T.parts prices.now) (F.small family.now) (F.large family.now))) result.sets }
+    ensures order { take result.used.count result.used.order ≡ order_after (asked_of T.width (held sheet.now) (map T.parts prices.now) (F.small family.now) (F.large family.now)) result.sets }
+    ensures filled { RoomFilled T.parts (asked_of T.width (held sheet.now) (map T.parts prices.now) (F.small family.now) (F.large family.now)) (room left.old sets.old amounts.old) (room left.new sets.new amounts.new) result.sets }
 {
     copy_prices(sheet, prices, left);
     let mut used = used_up_at_first(sheet, left);

@@ -34,11 +34,11 @@ pub fn find_cover<T: Amount, F: Family>(
     amounts: &mut [T],
     marks: &mut [u8],
 ) -> Cover<T>
-    requires ready { Ready (held sheet.now) (asked_of width (held sheet.now) (map parts prices.now) (small family.now) (large family.now)) (size family.now) }
+    requires ready { Ready (held sheet.now) (asked_of T.width (held sheet.now) (map T.parts prices.now) (F.small family.now) (F.large family.now)) (F.size family.now) }
     requires memory { memory_sized (memory left.old sets.old amounts.old marks.old) ≡ true }
-    ensures filled { Filled parts (asked_of width (held sheet.now) (map parts prices.now) (small family.now) (large family.now)) (memory left.old sets.old amounts.old marks.old) (memory left.new sets.new amounts.new marks.new) result.sets (parts result.cost) }
-    ensures small { Small parts (asked_of width (held sheet.now) (map parts prices.now) (small family.now) (large family.now)) (room left.new sets.new amounts.new) result.sets }
-    ensures cheapest { CheapestCover (asked_of width (held sheet.now) (map parts prices.now) (small family.now) (large family.now)) (member family.now) marks.new (parts result.cost) }
+    ensures filled { Filled T.parts (asked_of T.width (held sheet.now) (map T.parts prices.now) (F.small family.now) (F.large family.now)) (memory left.old sets.old amounts.old marks.old) (memory left.new sets.new amounts.new marks.new) result.sets (T.parts result.cost) }
+    ensures small { Small T.parts (asked_of T.width (held sheet.now) (map T.parts prices.now) (F.small family.now) (F.large family.now)) (room left.new sets.new amounts.new) result.sets }
+    ensures cheapest { CheapestCover (asked_of T.width (held sheet.now) (map T.parts prices.now) (F.small family.now) (F.large family.now)) (F.member family.now) marks.new (T.parts result.cost) }
 {
     let packing = pack(sheet, prices, family, left, sets, amounts);
     let mut kept = take(sheet, family, &packing.used);

@@ -30,12 +30,12 @@ pub fn quote<T: Amount>(
     amounts: &mut [T],
     marks: &mut [u8],
 ) -> Result<Quote<T>, Refusal>
-    ensures refusal { result_err result ≡ first (quote_checks (held sheet.now) (map parts prices.now) (quote_memory_sized (quote_memory left.old revised.old sets.old amounts.old marks.old))) }
+    ensures refusal { result_err result ≡ first (quote_checks (held sheet.now) (map T.parts prices.now) (quote_memory_sized (quote_memory left.old revised.old sets.old amounts.old marks.old))) }
     ensures untouched { is_ok result ≡ false → quote_memory left.new revised.new sets.new amounts.new marks.new ≡ quote_memory left.old revised.old sets.old amounts.old marks.old }
-    ensures filled { IfOk result (λ q. QuoteFilled parts width (held sheet.now) (map parts prices.now) (quote_memory left.old revised.old sets.old amounts.old marks.old) (quote_memory left.new revised.new sets.new amounts.new marks.new) q.sets (parts q.cost) (parts q.concession)) }
-    ensures small { IfOk result (λ q. Small parts (quote_asked width (held sheet.now) (map parts prices.now)) (room left.new sets.new amounts.new) q.sets) }
-    ensures keeps { IfOk result (λ q. KeepsTheTree width (held sheet.now) (map parts prices.now) (map parts revised.new) (parts q.concession)) }
-    ensures least { IfOk result (λ q. NoSmallerConcession width (held sheet.now) (map parts prices.now) (parts q.concession)) }
+    ensures filled { IfOk result (λ q. QuoteFilled T.parts T.width (held sheet.now) (map T.parts prices.now) (quote_memory left.old revised.old sets.old amounts.old marks.old) (quote_memory left.new revised.new sets.new amounts.new marks.new) q.sets (T.parts q.cost) (T.parts q.concession)) }
+    ensures small { IfOk result (λ q. Small T.parts (quote_asked T.width (held sheet.now) (map T.parts prices.now)) (room left.new sets.new amounts.new) q.sets) }
+    ensures keeps { IfOk result (λ q. KeepsTheTree T.width (held sheet.now) (map T.parts prices.now) (map T.parts revised.new) (T.parts q.concession)) }
+    ensures least { IfOk result (λ q. NoSmallerConcession T.width (held sheet.now) (map T.parts prices.now) (T.parts q.concession)) }
 {
     sheet.check_column(prices)?;
     if !memory_fits(left, revised, sets, amounts, marks) {

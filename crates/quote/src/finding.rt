@@ -39,13 +39,13 @@ pub fn find_quote<T: Amount>(
     marks: &mut [u8],
 ) -> Quote<T>
     requires column { length prices.now ≡ 200 }
-    requires priced { priced sheet.now.links.slots (map parts prices.now) ≡ true }
+    requires priced { priced sheet.now.links.slots (map T.parts prices.now) ≡ true }
     requires memory { quote_memory_sized (quote_memory left.old revised.old sets.old amounts.old marks.old) ≡ true }
     requires family { family.now.sheet ≡ sheet.now }
-    ensures filled { QuoteFilled parts width (held sheet.now) (map parts prices.now) (quote_memory left.old revised.old sets.old amounts.old marks.old) (quote_memory left.new revised.new sets.new amounts.new marks.new) result.sets (parts result.cost) (parts result.concession) }
-    ensures small { Small parts (quote_asked width (held sheet.now) (map parts prices.now)) (room left.new sets.new amounts.new) result.sets }
-    ensures keeps { KeepsTheTree width (held sheet.now) (map parts prices.now) (map parts revised.new) (parts result.concession) }
-    ensures least { NoSmallerConcession width (held sheet.now) (map parts prices.now) (parts result.concession) }
+    ensures filled { QuoteFilled T.parts T.width (held sheet.now) (map T.parts prices.now) (quote_memory left.old revised.old sets.old amounts.old marks.old) (quote_memory left.new revised.new sets.new amounts.new marks.new) result.sets (T.parts result.cost) (T.parts result.concession) }
+    ensures small { Small T.parts (quote_asked T.width (held sheet.now) (map T.parts prices.now)) (room left.new sets.new amounts.new) result.sets }
+    ensures keeps { KeepsTheTree T.width (held sheet.now) (map T.parts prices.now) (map T.parts revised.new) (T.parts result.concession) }
+    ensures least { NoSmallerConcession T.width (held sheet.now) (map T.parts prices.now) (T.parts result.concession) }
 {
     let cover = find_cover(sheet, prices, family, left, sets, amounts, marks);
     copy_prices(sheet, prices, revised);

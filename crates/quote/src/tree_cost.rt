@@ -10,8 +10,8 @@ use amount::kind::Amount;
 pub fn cost_of_listed<T: Amount>(prices: &[T], list: &[u16]) -> T
     requires few { length list.now ≤ 39 }
     requires placed { (i : ℕ) → i < length list.now → slice_index list.now i < length prices.now }
-    requires small { (i : ℕ) → i < length list.now → lies_within 100000 (shown (map parts prices.now) (slice_index list.now i)) ≡ true }
-    ensures { parts result ≡ cost_of_list width (shown (map parts prices.now)) list.now }
+    requires small { (i : ℕ) → i < length list.now → lies_within 100000 (shown (map T.parts prices.now) (slice_index list.now i)) ≡ true }
+    ensures { T.parts result ≡ cost_of_list T.width (shown (map T.parts prices.now)) list.now }
 {
     let mut total = T::nothing();
     for k in list {

@@ -24,7 +24,7 @@ pub fn make<T: Amount, F: Family>(
     marks: &mut [u8],
     call: &Call<'_, T, F>,
 ) -> Outcome<T>
-    ensures { Made (kinds width parts size small large) member (state (held sheet.old) prices.old (quote_memory left.old revised.old sets.old amounts.old marks.old)) (state (held sheet.new) prices.new (quote_memory left.new revised.new sets.new amounts.new marks.new)) call.now result }
+    ensures { Made (kinds T.width T.parts F.size F.small F.large) F.member (state (held sheet.old) prices.old (quote_memory left.old revised.old sets.old amounts.old marks.old)) (state (held sheet.new) prices.new (quote_memory left.new revised.new sets.new amounts.new marks.new)) call.now result }
 {
     match call {
         Call::Add(number, tail, head, price) => {

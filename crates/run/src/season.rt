@@ -33,7 +33,7 @@ pub fn run<T: Amount, F: Family>(
     ensures sheet_kept { is_ok result ≡ false → sheet.new ≡ sheet.old }
     ensures untouched { is_ok result ≡ false → state (held sheet.new) prices.new (quote_memory left.new revised.new sets.new amounts.new marks.new) ≡ state (held sheet.old) prices.old (quote_memory left.old revised.old sets.old amounts.old marks.old) }
     ensures outcomes_kept { is_ok result ≡ false → outcomes.new ≡ outcomes.old }
-    ensures season { OnOk result (Season (kinds width parts size small large) member stations calls.now outcomes.new (at_first stations prices.old (quote_memory left.old revised.old sets.old amounts.old marks.old)) (state (held sheet.new) prices.new (quote_memory left.new revised.new sets.new amounts.new marks.new))) }
+    ensures season { OnOk result (Season (kinds T.width T.parts F.size F.small F.large) F.member stations calls.now outcomes.new (at_first stations prices.old (quote_memory left.old revised.old sets.old amounts.old marks.old)) (state (held sheet.new) prices.new (quote_memory left.new revised.new sets.new amounts.new marks.new))) }
 {
     check_run(stations, calls.len(), outcomes.len())?;
     sheet.open(stations)?;
@@ -71,7 +71,7 @@ pub fn make_all<T: Amount, F: Family>(
 )
     requires as_many { length outcomes.old ≡ length calls.now }
     requires opened { held sheet.old ≡ opened (held sheet.old).stations }
-    ensures { Season (kinds width parts size small large) member (held sheet.old).stations calls.now outcomes.new (at_first (held sheet.old).stations prices.old (quote_memory left.old revised.old sets.old amounts.old marks.old)) (state (held sheet.new) prices.new (quote_memory left.new revised.new sets.new amounts.new marks.new)) }
+    ensures { Season (kinds T.width T.parts F.size F.small F.large) F.member (held sheet.old).stations calls.now outcomes.new (at_first (held sheet.old).stations prices.old (quote_memory left.old revised.old sets.old amounts.old marks.old)) (state (held sheet.new) prices.new (quote_memory left.new revised.new sets.new amounts.new marks.new)) }
 {
     for i in 0..calls.len() {
         let outcome = make(
