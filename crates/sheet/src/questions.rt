@@ -39,7 +39,7 @@ impl Sheet {
     {
         match &self.tree {
             None => &[],
-            Some(tree) => &tree.numbers[0..self.stations as usize - 1],
+            Some(tree) => &tree.numbers[0..usize::from(self.stations) - 1],
         }
     }
 
