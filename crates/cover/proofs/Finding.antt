@@ -1,16 +1,15 @@
 -- The stages put together: stage 2 always finds a link, the links kept have small prices, and what all
 -- stages leave is small and a cheapest cover.
-use Rattle.std.proofs.Common.{◌≡◌, ℕ, ◌<◌, ◌≤◌, Bool, true, false, cond, not, eqb, List, [], map, length, get_or, take, drop, ℤ, is_some, Some, unwrap_or, sym, refl, ap, ◌∙◌, subst, ap₂, ⊎_elim, arith}
-use Rattle.std.specs.List.{range_with_len}
+use Rattle.std.proofs.Common.{◌≡◌, ℕ, true, cond, not, eqb, List, [], map, length, get_or, ℤ, is_some, Some, unwrap_or, sym, ap, ◌∙◌, subst, ⊎_elim, arith}
 use Rattle.std.proofs.lemmas.List.FromFn.{get_or-map-range_with_len}
 use Rattle.std.proofs.lemmas.List.{get_or-take, take-map}
-use Rattle.std.proofs.lemmas.Bool.{both_ways, cases_Bool, and_parts, not-false, eqb-true}
-use Rattle.amount.specs.Parts.{below, nothing, within, legal}
+use Rattle.std.proofs.lemmas.Bool.{cases_Bool, and_parts, not-false, eqb-true}
+use Rattle.amount.specs.Parts.{below, nothing, within}
 use Rattle.digraph.specs.Entering.{marked}
 use Rattle.duality.specs.Costs.{summed}
 use Rattle.duality.specs.Trees.{is_link}
 use Rattle.stages.specs.Asked.{Asked, StopsAfter, price_of}
-use Rattle.stages.specs.Packing.{left_of, left_after, answer_after, set_at, amount_at, order_after}
+use Rattle.stages.specs.Packing.{answer_after, amount_at, order_after}
 use Rattle.stages.specs.Taking.{first_entering, taken_after}
 use Rattle.stages.specs.Keeping.{kept_of}
 use Rattle.stages.specs.Done.{Done, taken_marks}
@@ -18,7 +17,7 @@ use Rattle.stages.specs.Theorems.{CheapestCover, cost_in_force}
 use Rattle.stages.proofs.Lawful.{Lawful, link_is_placed}
 use Rattle.stages.proofs.Lefts.{few_sets, left_within, amount_within}
 use Rattle.stages.proofs.Takes.{wanting, link_taken, link_is_some, link_enters, link_placed, wanting_is_largest, kept_is_link, summed_same}
-use Rattle.cover.specs.Memory.{Room, Memory}
+use Rattle.cover.specs.Memory.{Room}
 use Rattle.cover.specs.Turns.{Findable, AllTaken}
 use Rattle.cover.specs.Filled.{RoomFilled, Small}
 

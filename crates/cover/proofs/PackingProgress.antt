@@ -1,18 +1,18 @@
 -- Stage 1 under way, as the code has it: what was written so far is what the definition says after as many
 -- sets. It holds at the first prices, every turn keeps it, and where the question says none it is the answer.
-use Rattle.std.proofs.Common.{◌≡◌, ℕ, zero, suc, ◌+◌, ◌<◌, ◌≤◌, Bool, true, false, cond, not, ◌&&◌, List, [], ◌∷◌, ◌++◌, map, length, get_or, take, drop, set, ℤ, is_some, Some, None, filter, Option, sym, refl, ap, ◌∙◌, subst, ap₂, ⊎_elim, arith}
+use Rattle.std.proofs.Common.{◌≡◌, ℕ, zero, suc, ◌+◌, ◌<◌, true, false, cond, ◌&&◌, List, [], ◌∷◌, ◌++◌, map, length, get_or, take, drop, set, ℤ, is_some, Some, None, filter, Option, sym, refl, ap, ◌∙◌, ap₂, ⊎_elim, arith}
 use Rattle.std.specs.List.{range_with_len}
 use Rattle.std.proofs.lemmas.List.FromFn.{get_or-map-range_with_len, length-map-range_with_len, map-range_with_len_more}
-use Rattle.std.proofs.lemmas.List.{ext_get_or, length-map, take_more_set, map_push, drop-set-lt, drop-drop}
+use Rattle.std.proofs.lemmas.List.{ext_get_or, take_more_set, map_push, drop-set-lt, drop-drop}
 use Rattle.std.proofs.lemmas.Bool.Decides.{nat_tests}
 use Rattle.std.proofs.lemmas.Bool.{both_ways, cases_Bool, and_left}
 use Rattle.digraph.specs.Entering.{enters_at}
-use Rattle.digraph.specs.Links.{Slots, link_at}
+use Rattle.digraph.specs.Links.{link_at}
 use Rattle.duality.specs.Trees.{is_link}
 use Rattle.duality.proofs.Entering.{no_link_enters_nothing}
 use Rattle.amount.specs.Parts.{minus, nothing}
 use Rattle.remainders.specs.Column.{spent, spent_link, gone}
-use Rattle.stages.specs.Asked.{Asked, for_each, StopsAfter, price_of}
+use Rattle.stages.specs.Asked.{Asked, for_each}
 use Rattle.stages.specs.Packing.{left_of, used_up, used_marks, tightest, left_after, answer_after, set_at, amount_at, order_after}
 use Rattle.stages.proofs.Lawful.{Lawful, link_is_placed, entering_is_link}
 use Rattle.stages.proofs.Lefts.{left_of_first}

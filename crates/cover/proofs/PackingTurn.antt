@@ -1,13 +1,12 @@
 -- One turn of stage 1: from marks and a column that show what is left after i sets, and the set that the
 -- question gives for them, to marks, column and order after one set more.
-use Rattle.std.proofs.Common.{◌≡◌, ℕ, zero, suc, ◌+◌, ◌<◌, ◌≤◌, Bool, true, false, cond, not, ◌&&◌, List, [], ◌∷◌, ◌++◌, map, length, get_or, ℤ, is_some, Some, None, filter, Option, unwrap_or, sym, refl, ap, ◌∙◌, subst, ap₂, ⊎_elim, add-one, arith}
+use Rattle.std.proofs.Common.{◌≡◌, ℕ, zero, suc, ◌+◌, ◌<◌, ◌≤◌, Bool, true, false, cond, ◌&&◌, List, [], ◌∷◌, ◌++◌, get_or, ℤ, is_some, Some, None, filter, unwrap_or, sym, refl, ap, ◌∙◌, subst, ap₂, ⊎_elim, add-one, arith}
 use Rattle.std.specs.List.{range_with_len}
-use Rattle.std.proofs.lemmas.List.FromFn.{get_or-map-range_with_len, length-map-range_with_len, get_or-range_with_len, length-range_with_len}
+use Rattle.std.proofs.lemmas.List.FromFn.{get_or-map-range_with_len, length-map-range_with_len}
 use Rattle.std.proofs.lemmas.List.{ext_get_or}
-use Rattle.std.proofs.lemmas.Bool.{both_ways, cases_Bool, cases_eq, and_left}
-use Rattle.amount.specs.Parts.{minus, below, nothing, Fitting}
+use Rattle.std.proofs.lemmas.Bool.{cases_Bool, cases_eq, and_left}
+use Rattle.amount.specs.Parts.{minus, Fitting}
 use Rattle.digraph.specs.Entering.{enters_at}
-use Rattle.digraph.specs.Links.{Slots}
 use Rattle.duality.specs.Trees.{is_link}
 use Rattle.duality.proofs.Entering.{entering_is_listed}
 use Rattle.remainders.specs.Column.{spent, gone}

@@ -1,9 +1,8 @@
 -- Stage 3, one turn: a mark that is put back is the one that was there, and the turns still to come are
 -- one fewer.
-use Rattle.std.proofs.Common.{◌≡◌, ℕ, suc, ◌-◌, ◌<◌, Bool, true, cond, not, eqb, List, get_or, set, is_some, Option, sym, refl, ap, ◌∙◌, subst, ap₂, arith}
+use Rattle.std.proofs.Common.{◌≡◌, ℕ, suc, ◌-◌, ◌<◌, Bool, true, cond, eqb, List, get_or, set, is_some, Option, sym, ap, ◌∙◌, ap₂, arith}
 use Rattle.std.proofs.lemmas.List.{set-set, set-get_or}
 use Rattle.std.proofs.lemmas.Bool.{ne_eqb, not_from_false}
-use Rattle.digraph.specs.Entering.{marked}
 use Rattle.stages.specs.Keeping.{spared, kept_of}
 
 module _ (largest : List ℕ → Option ℕ) (marks : List ℕ) (k : ℕ) where

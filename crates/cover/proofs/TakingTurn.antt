@@ -1,6 +1,6 @@
 -- One turn of stage 2: a link is found that was not taken before, so one place fewer is unmarked, and the
 -- marks are those after one turn more.
-use Rattle.std.proofs.Common.{◌≡◌, ℕ, suc, ◌+◌, ◌<◌, true, List, length, get_or, set, is_some, Some, None, Option, sym, refl, ap, ◌∙◌, subst, ⊎_elim, arith}
+use Rattle.std.proofs.Common.{◌≡◌, ℕ, suc, ◌<◌, true, List, length, get_or, set, is_some, Some, None, Option, sym, refl, ap, ◌∙◌, subst, ⊎_elim, arith}
 use Rattle.std.proofs.lemmas.Bool.{cases_eq}
 use Rattle.digraph.specs.Links.{Slots}
 use Rattle.remainders.specs.Marks.{unmarked}

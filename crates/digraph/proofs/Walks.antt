@@ -1,9 +1,9 @@
 -- A path goes over to other steps, and so does a spanning tree to another table that has the same
 -- links at the tree's numbers. Both by going along the path.
-use Rattle.std.proofs.Common.{◌≡◌, ℕ, ◌<◌, true, List, length, get_or, is_some, sym, ap, ◌∙◌, subst}
+use Rattle.std.proofs.Common.{◌≡◌, ℕ, ◌<◌, List, length, get_or, is_some, sym, ap, ◌∙◌}
 use Rattle.digraph.specs.Links.{Slots, link_at}
 use Rattle.digraph.specs.Paths.{Path, stay, step}
-use Rattle.digraph.specs.Trees.{Along, SpanningTree}
+use Rattle.digraph.specs.Trees.{SpanningTree}
 
 pub path_by_other_steps : {E F : ℕ → ℕ → Type 0} {s v : ℕ} → ((a b : ℕ) → E a b → F a b) → Path E s v → Path F s v
 path_by_other_steps f stay = stay

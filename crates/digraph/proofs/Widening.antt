@@ -1,12 +1,12 @@
 -- Widening a set 40 times closes it: each time it has a station more or is closed already, and it has
 -- at most 40. So the least closed set around a start is `reach_set`, whatever search found it.
-use Rattle.std.proofs.Common.{◌≡◌, ℕ, zero, suc, ◌+◌, ◌-◌, ◌^◌, ◌<◌, ◌≤◌, max, Bool, true, false, cond, ◌⊎◌, List, [], ◌∷◌, length, get_or, sym, refl, ap, ◌∙◌, subst, inl, inr, ⊎_elim, arith}
+use Rattle.std.proofs.Common.{◌≡◌, ℕ, zero, suc, ◌+◌, ◌-◌, ◌^◌, ◌<◌, ◌≤◌, Bool, true, false, cond, ◌⊎◌, List, [], ◌∷◌, length, get_or, sym, refl, ap, ◌∙◌, subst, inl, inr, ⊎_elim, arith}
 use lib.Bits.{bit_or, or_lt}
 use lib.Count.{ones, ones-ones}
 use Rattle.std.proofs.lemmas.Nat.{pow_pos, pow_below}
 use Rattle.std.proofs.lemmas.List.{get_or_past}
 use Rattle.std.proofs.lemmas.Bool.{cases_eq, cases_lt}
-use Rattle.stations.specs.Sets.{In, Part, has, digit}
+use Rattle.stations.specs.Sets.{In, Part, has}
 use Rattle.stations.proofs.Digits.{digit_le_1, digit_or, digit_of_0, digit_pow_same, digit_ones_below, In-below, In-pow, in_or_out, has→In, In→has, Part-antisym, Part→≤, ones_mono, ones_full}
 use Rattle.digraph.specs.Search.{Next, Closed, spread, widened, reach_set}
 

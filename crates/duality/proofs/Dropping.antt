@@ -1,6 +1,6 @@
 -- What the third stage keeps still enters every member, and none of it can be spared: a link that could
 -- be spared at the end could be spared when its turn came, since more was kept then.
-use Rattle.std.proofs.Common.{◌≡◌, ℕ, zero, suc, ◌+◌, ◌-◌, ◌<◌, ◌≤◌, Bool, true, false, not, ◌&&◌, eqb, ◌⊎◌, sym, refl, ap, ◌∙◌, subst, ⊎_elim, arith}
+use Rattle.std.proofs.Common.{◌≡◌, ℕ, zero, suc, ◌+◌, ◌-◌, ◌<◌, ◌≤◌, Bool, true, not, eqb, sym, refl, ap, ◌∙◌, subst, ⊎_elim, arith}
 use Rattle.std.proofs.lemmas.Bool.{and_parts, and_from, both_ways, eq-eqb, not-true}
 use Rattle.digraph.specs.Entering.{EnteredBy}
 use Rattle.digraph.specs.Links.{Slots}

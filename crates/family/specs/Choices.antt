@@ -1,6 +1,6 @@
 -- The families that a caller can make, their members and what their questions answer. A family that is
 -- made for another number of stations than the sheet has answers none.
-use Rattle.std.specs.Prelude.{◌≡◌, ℕ, zero, suc, ◌+◌, ◌-◌, ◌^◌, ◌<◌, Bool, true, false, cond, List, Some, None, Option, ◌==◌, count_ones, nat_lt}
+use Rattle.std.specs.Prelude.{◌≡◌, ℕ, zero, suc, ◌+◌, ◌-◌, ◌^◌, ◌<◌, true, false, cond, List, Some, None, Option, ◌==◌, count_ones, nat_lt}
 use Rattle.stations.specs.Sets.{has}
 use Rattle.digraph.specs.Search.{reach_set}
 use Rattle.sheet.specs.Held.{Held}

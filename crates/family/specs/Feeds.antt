@@ -1,16 +1,15 @@
 -- The laws of the feed family. Smallest: the set around some station of any other unentered member lies
 -- inside it and has no fewer stations. Largest: what the base does not reach holds every unentered member.
-use Rattle.std.specs.Prelude.{◌≡◌, ℕ, zero, suc, ◌+◌, ◌-◌, ◌^◌, ◌<◌, ◌≤◌, Bool, true, false, cond, ◌⊎◌, List, length, Some, None, Option, ◌==◌, ◌≢◌, bit_and, bit_or, count_ones, nat_lt}
+use Rattle.std.specs.Prelude.{◌≡◌, ℕ, zero, suc, ◌+◌, ◌-◌, ◌^◌, ◌<◌, ◌≤◌, Bool, true, false, cond, List, Some, None, Option, ◌==◌, ◌≢◌, bit_and, bit_or, count_ones, nat_lt}
 use Rattle.std.specs.Int.Bits.{and_lt}
-use Rattle.std.proofs.Common.{inl, inr, ⊎_elim, sym, ◌∙◌, ap}
+use Rattle.std.proofs.Common.{⊎_elim, sym, ◌∙◌, ap}
 use Rattle.std.proofs.Math.Path.{refl, subst}
 use native.Mathlib.Omega.{arith}
-use Rattle.std.proofs.lemmas.Nat.{pow_pos, pow_below, or_lt}
+use Rattle.std.proofs.lemmas.Nat.{pow_below, or_lt}
 use Rattle.std.proofs.lemmas.Bool.{both_ways, cases_Bool, cases_lt, eq-eqb, ne_eqb, eqb-true, eqb-false, ltb-true, ltb-false, cond-true, cond-false}
-use Rattle.stations.specs.Sets.{In, Part, has, digit}
+use Rattle.stations.specs.Sets.{In, Part, has}
 use Rattle.stations.proofs.Digits.{has→In, In→has, lacks→out, out→lacks, digit_and, digit_or, digit_of_0, digit_le_1, digit_pow_other, digit_pow_same, none_or_some, In-below, Part-antisym, ones_mono, ones_full}
 use Rattle.digraph.specs.Entering.{Entered}
-use Rattle.digraph.specs.Links.{Slots}
 use Rattle.digraph.specs.Search.{reach_set}
 use Rattle.sheet.specs.Held.{Held}
 use Rattle.sheet.specs.Sound.{Sound}

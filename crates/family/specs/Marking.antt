@@ -1,21 +1,21 @@
 -- The masks of marked links have just their steps, forth or back; so a set is closed going back
 -- exactly if no marked link enters it. By reading one link off the masks, or putting one on.
-use Rattle.std.specs.Prelude.{◌≡◌, ℕ, ◌+◌, ◌^◌, ◌<◌, ◌≤◌, Bool, true, false, cond, not, ◌&&◌, ◌⊎◌, List, [], ◌∷◌, map, length, replicate, is_some, Some, None, Option, ◌≢◌, slice_index, slice_index_or, refl}
-use Rattle.std.proofs.Common.{inl, inr, ⊎_elim, ◌∙◌, subst, arith}
+use Rattle.std.specs.Prelude.{◌≡◌, ℕ, ◌^◌, ◌<◌, ◌≤◌, Bool, true, false, cond, not, List, map, length, Some, None, Option, ◌≢◌, slice_index, slice_index_or, refl}
+use Rattle.std.proofs.Common.{⊎_elim, ◌∙◌, subst, arith}
 use Rattle.std.proofs.Math.Path.{sym, ap}
 use Rattle.std.specs.List.{range_with_len}
 use Rattle.std.specs.Option.{option_map}
 use Rattle.std.proofs.lemmas.List.FromFn.{get_or-map-range_with_len, length-map-range_with_len}
 use Rattle.std.proofs.lemmas.List.{get_or_past}
 use Rattle.std.proofs.lemmas.Bool.{and_parts, and_from, not-true, not_from_false, both_ways, cases_Bool, cases_lt}
-use Rattle.stations.specs.Sets.{In, Part, has}
+use Rattle.stations.specs.Sets.{In, has}
 use Rattle.stations.proofs.Digits.{has→In, In→has}
-use Rattle.digraph.specs.Entering.{marked, enters, enters_at, Entered}
-use Rattle.digraph.specs.Links.{Slots, link_at, Leads}
+use Rattle.digraph.specs.Entering.{marked, enters, Entered}
+use Rattle.digraph.specs.Links.{Slots, link_at}
 use Rattle.digraph.specs.Search.{Next, Closed}
 use Rattle.digraph.specs.Steps.{Low}
 use Rattle.digraph.specs.declared.link.Link.{Link}
-use Rattle.digraph.proofs.Stepping.{AllLow, From, Somewhere, next_somewhere, somewhere_next, steps_are_low}
+use Rattle.digraph.proofs.Stepping.{AllLow, next_somewhere, somewhere_next, steps_are_low}
 use Rattle.digraph.specs.Links.{Proper}
 use Rattle.family.specs.Laws.{Unentered}
 use Rattle.family.specs.Reach.{MarkedStep, turned, marked_link, marked_steps}

@@ -1,14 +1,14 @@
 -- The stations outside a set; the stations not reached from a start are the greatest set without it
 -- that no marked link enters; and whether a set is entered can be searched. By digits, place by place.
-use Rattle.std.specs.Prelude.{◌≡◌, ℕ, zero, suc, ◌+◌, ◌-◌, ◌^◌, ◌<◌, ◌≤◌, Bool, true, false, not, ◌&&◌, ◌⊎◌, List, length, get_or, None, refl}
-use Rattle.std.proofs.Common.{inl, inr, ⊎_elim, sym, ◌∙◌, ap, subst, arith}
+use Rattle.std.specs.Prelude.{◌≡◌, ℕ, zero, suc, ◌^◌, ◌<◌, ◌≤◌, Bool, true, false, ◌&&◌, ◌⊎◌, List, length, None}
+use Rattle.std.proofs.Common.{inl, inr, ⊎_elim, ap, subst, arith}
 use Rattle.std.proofs.lemmas.Nat.{pow_pos}
 use Rattle.std.proofs.lemmas.List.{get_or_past}
-use Rattle.std.proofs.lemmas.Bool.{and_parts, and_from, and_cases, both_ways, cases_Bool, cases_lt}
-use Rattle.stations.specs.Sets.{In, Part, has, digit}
-use Rattle.stations.proofs.Digits.{has→In, In→has, lacks→out, out→lacks, digit_not, digit_le_1, In-below, digit_above}
+use Rattle.std.proofs.lemmas.Bool.{and_parts, and_from, both_ways, cases_Bool, cases_lt}
+use Rattle.stations.specs.Sets.{In, Part, has}
+use Rattle.stations.proofs.Digits.{has→In, In→has, lacks→out, out→lacks, digit_not, In-below}
 use Rattle.digraph.specs.Entering.{marked, enters, enters_at, Entered}
-use Rattle.digraph.specs.Links.{Slots, link_at}
+use Rattle.digraph.specs.Links.{Slots}
 use Rattle.digraph.specs.Links.{Proper}
 use Rattle.family.specs.Choices.{others}
 use Rattle.family.specs.Laws.{Unentered}

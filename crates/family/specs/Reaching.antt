@@ -1,20 +1,20 @@
 -- What the sets `reaching` and `reached_from` are: the least set around a station that no marked link
 -- enters, or leaves, and just the stations at the other ends of paths. From what a search over the masks finds.
-use Rattle.std.specs.Prelude.{◌≡◌, ℕ, ◌-◌, ◌^◌, ◌<◌, ◌≤◌, true, false, List, length, Decides, slice_index}
-use Rattle.std.proofs.Common.{sym, subst, arith}
+use Rattle.std.specs.Prelude.{◌≡◌, ℕ, ◌-◌, ◌^◌, ◌<◌, ◌≤◌, List, length, Decides, slice_index}
+use Rattle.std.proofs.Common.{arith}
 use Rattle.std.proofs.lemmas.Nat.{pow_pos}
 use Rattle.stations.specs.Sets.{In, Part, has}
-use Rattle.stations.proofs.Digits.{has→In, In→has, digit_ones_below, Part→≤}
+use Rattle.stations.proofs.Digits.{digit_ones_below, Part→≤}
 use Rattle.digraph.specs.Links.{Slots}
 use Rattle.digraph.specs.Paths.{Path, stay, step}
-use Rattle.digraph.specs.Search.{Next, Closed, reach_set}
+use Rattle.digraph.specs.Search.{Next, Closed}
 use Rattle.digraph.proofs.Walks.{path_by_other_steps}
 use Rattle.digraph.proofs.Widening.{reach_set_has_start, reach_set_closed, reach_set_least}
 use Rattle.digraph.specs.Links.{Proper}
 use Rattle.family.specs.Laws.{Unentered}
 use Rattle.family.specs.Reach.{MarkedStep, marked_steps, reaching, reached_from}
 use Rattle.family.specs.declared.reach.Direction.TheVariants.{Forth, Back}
-use Rattle.family.specs.Marking.{Way, next_is_way, way_is_next, closed_is_unentered, unentered_is_closed, marked_steps_low}
+use Rattle.family.specs.Marking.{next_is_way, way_is_next, closed_is_unentered, unentered_is_closed, marked_steps_low}
 
 -- a path with a step put in front
 path_from_step : {E : ℕ → ℕ → Type 0} {s u v : ℕ} → E s u → Path E u v → Path E s v

@@ -1,6 +1,6 @@
 -- The laws of the route family: the stations that reach the end are the least unentered set with it, and
 -- those that the start does not reach are the greatest without it.
-use Rattle.std.specs.Prelude.{◌≡◌, ℕ, ◌-◌, ◌^◌, ◌<◌, ◌≤◌, Bool, true, false, cond, List, Some, None, Option, ◌≢◌, bit_and, bit_or, refl}
+use Rattle.std.specs.Prelude.{◌≡◌, ℕ, ◌^◌, ◌<◌, Bool, true, false, cond, List, Some, None, ◌≢◌, bit_and, bit_or, refl}
 use Rattle.std.specs.Int.Bits.{and_lt}
 use Rattle.std.proofs.Common.{⊎_elim, sym, ◌∙◌, ap, subst, arith}
 use Rattle.std.proofs.lemmas.Nat.{pow_below, or_lt}

@@ -1,22 +1,20 @@
 -- What a quote leaves keeps the tree by just the concession, and no list of prices does for less: the
 -- stages are read as those of the general theory, and its two theorems at the columns that the code has.
-use Rattle.std.proofs.Common.{◌≡◌, ℕ, ◌<◌, ◌≤◌, Bool, true, false, cond, List, [], length, get_or, ℤ, is_some, sym, refl, ap, ◌∙◌, subst, ap₂, arith}
-use Rattle.amount.specs.Parts.{minus, below, nothing, within}
+use Rattle.std.proofs.Common.{◌≡◌, ℕ, ◌<◌, Bool, true, cond, List, [], length, get_or, ℤ, is_some, sym, refl, ap, ◌∙◌, subst, ap₂, arith}
+use Rattle.amount.specs.Parts.{minus, below, nothing}
 use Rattle.cuts.specs.Families.{listed}
 use Rattle.digraph.specs.Entering.{marked}
 use Rattle.digraph.specs.Trees.{SpanningTree}
 use Rattle.duality.specs.Costs.{cost_of}
 use Rattle.duality.specs.Families.{Covering}
-use Rattle.duality.specs.Stages.{OneOf}
-use Rattle.duality.specs.Trees.{is_link, cost_of_list, list_deviation, revised, concession, PriceList, TreeKept, Quoted}
+use Rattle.duality.specs.Trees.{is_link, cost_of_list, revised, concession, TreeKept, Quoted}
 use Rattle.duality.proofs.ListedTrees.{quote_keeps_the_tree, deviates_by_the_concession}
 use Rattle.sheet.specs.Calls.{priced}
 use Rattle.sheet.specs.Held.{Held}
 use Rattle.sheet.specs.Sound.{Sound}
 use Rattle.stages.specs.Asked.{Asked, price_of}
 use Rattle.stages.specs.Packing.{left_of, left_after, set_at, amount_at}
-use Rattle.stages.specs.Keeping.{kept_of}
-use Rattle.stages.specs.Done.{Done, taken_marks}
+use Rattle.stages.specs.Done.{Done}
 use Rattle.stages.specs.Theorems.{cost_in_force}
 use Rattle.stages.proofs.Lawful.{Lawful, link_is_placed}
 use Rattle.stages.proofs.Lefts.{left_of_first, packed_stage}
@@ -24,7 +22,7 @@ use Rattle.stages.proofs.Takes.{wanting, link_taken, taken_stage, kept_of_taken,
 use Rattle.tree_family.specs.Members.{Member}
 use Rattle.tree_shape.specs.Trees.{tree_of}
 use Rattle.quote.specs.Quotes.{quote_asked, revised_price, tree_cost}
-use Rattle.quote.specs.Trees.{shown, TreeIsCheapest, NoSmallerConcession, KeepsTheTree}
+use Rattle.quote.specs.Trees.{shown, NoSmallerConcession, KeepsTheTree}
 use Rattle.quote.proofs.Differences.{list_cost_same, deviation_same}
 use Rattle.quote.proofs.TreeQuotes.{tree, tree_lawful}
 

@@ -2,7 +2,7 @@
 -- should, and all others what they did.
 use Rattle.std.proofs.Common.{◌≡◌, ℕ, ◌+◌, ◌<◌, Bool, true, false, ◌||◌, eqb, ◌⊎◌, List, [], ◌∷◌, ◌++◌, map, length, get_or, take, set, ℤ, sym, refl, ap, ◌∙◌, subst, inl, inr, ⊎_elim, arith}
 use Rattle.std.proofs.lemmas.List.{take_more, length-map, map-set, get_or-set_same, get_or-set_other}
-use Rattle.std.proofs.lemmas.Bool.{both_ways, cases_Bool, or_cases, or_parts, eqb-true, eqb-false, eq-eqb}
+use Rattle.std.proofs.lemmas.Bool.{both_ways, cases_Bool, or_cases, or_parts, eqb-true, eqb-false}
 use Rattle.cuts.specs.Families.{listed}
 
 listed_push : (list : List ℕ) (x k : ℕ) → listed (list ++ x ∷ []) k ≡ (listed list k || eqb x k)

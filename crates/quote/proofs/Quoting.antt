@@ -1,33 +1,32 @@
 -- A quote put together: what the calls inside it ask for, and what it leaves, over plain values.
-use Rattle.std.proofs.Common.{◌≡◌, ℕ, ◌+◌, ◌*◌, ◌<◌, ◌≤◌, Bool, true, false, cond, ◌&&◌, eqb, List, [], map, length, get_or, ℤ, is_some, None, sym, refl, ap, ◌∙◌, subst, ap₂, ⊎_elim, arith}
+use Rattle.std.proofs.Common.{◌≡◌, ℕ, ◌*◌, ◌<◌, Bool, true, false, cond, List, [], map, length, get_or, ℤ, is_some, None, sym, refl, ap, ◌∙◌, subst, ap₂, ⊎_elim, arith}
 use Rattle.std.proofs.lemmas.List.{length-map}
-use Rattle.std.proofs.lemmas.Bool.{both_ways, cases_Bool, and_parts}
+use Rattle.std.proofs.lemmas.Bool.{both_ways, cases_Bool}
 use Rattle.std.proofs.lemmas.Bool.Decides.{nat_tests}
 use Rattle.amount.specs.Parts.{minus, nothing, within, Fitting}
-use Rattle.cover.specs.Memory.{Memory, memory, memory_sized, room}
+use Rattle.cover.specs.Memory.{Memory, memory_sized, room}
 use Rattle.cover.specs.Ready.{Ready}
 use Rattle.cover.specs.Filled.{Filled, Small}
 use Rattle.cover.proofs.PackingProgress.{same_parts}
 use Rattle.cuts.specs.Families.{listed}
 use Rattle.cuts.proofs.TreeExtremes.{listed→place}
 use Rattle.digraph.specs.Entering.{marked}
-use Rattle.duality.specs.Trees.{is_link, cost_of_list, revised}
+use Rattle.duality.specs.Trees.{is_link, cost_of_list}
 use Rattle.refusal.specs.Checks.{first}
 use Rattle.sheet.specs.Calls.{priced, column_checks}
 use Rattle.sheet.specs.Held.{Held}
 use Rattle.sheet.specs.Sound.{Sound}
-use Rattle.stages.specs.Asked.{Asked, price_of}
+use Rattle.stages.specs.Asked.{price_of}
 use Rattle.stages.specs.Packing.{left_of, left_after}
 use Rattle.stages.specs.Theorems.{cost_in_force}
-use Rattle.stages.proofs.Lawful.{link_is_placed}
 use Rattle.remainders.proofs.Summing.{nothing_within, summed_within}
 use Rattle.tree_shape.specs.Trees.{tree_of}
-use Rattle.quote.specs.Memory.{QuoteMemory, quote_memory, quote_memory_sized}
+use Rattle.quote.specs.Memory.{QuoteMemory, quote_memory_sized}
 use Rattle.quote.specs.Quotes.{quote_asked, revised_price, tree_cost, QuoteFilled}
 use Rattle.quote.specs.Trees.{shown, NoSmallerConcession, KeepsTheTree}
 use Rattle.quote.proofs.Differences.{difference_fits, list_cost_same}
 use Rattle.quote.proofs.ListCosts.{cost_within_few}
-use Rattle.quote.proofs.TreeQuotes.{tree, none_left_out, tree_is_short, tree_link_placed, link_price_small}
+use Rattle.quote.proofs.TreeQuotes.{tree, none_left_out, tree_is_short, link_price_small}
 use Rattle.quote.proofs.Keeping.{no_smaller_concession, keeps_the_tree}
 
 -- what the column's checks that passed say

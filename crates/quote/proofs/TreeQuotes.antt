@@ -1,18 +1,16 @@
 -- The family of an installed tree is one that the stages can work with: its laws, that links enter every
 -- member, and what is known of the tree's links and their prices.
-use Rattle.std.proofs.Common.{◌≡◌, ℕ, ◌+◌, ◌<◌, ◌≤◌, Bool, true, false, cond, not, eqb, ◌⊎◌, List, [], length, get_or, replicate, ℤ, is_some, Some, None, sym, refl, ap, ◌∙◌, subst, inl, inr, ⊎_elim, arith}
+use Rattle.std.proofs.Common.{◌≡◌, ℕ, ◌<◌, ◌≤◌, true, not, eqb, List, [], length, get_or, replicate, ℤ, is_some, Some, None, refl, ap, ⊎_elim, arith}
 use Rattle.std.proofs.lemmas.List.{get_or-replicate}
 use Rattle.std.proofs.lemmas.Bool.{and_parts}
 use Rattle.amount.specs.Parts.{below, nothing, within}
 use Rattle.cuts.proofs.TreeFamily.{tree_link, tree_member_not_empty, tree_member_and, tree_member_or}
-use Rattle.digraph.specs.Entering.{marked}
 use Rattle.digraph.specs.Trees.{SpanningTree}
 use Rattle.duality.specs.Trees.{is_link}
 use Rattle.duality.proofs.Entering.{entering_is_listed}
 use Rattle.sheet.specs.Calls.{priced}
 use Rattle.sheet.specs.Held.{Held}
 use Rattle.sheet.specs.Sound.{Sound}
-use Rattle.stages.specs.Asked.{Asked}
 use Rattle.stages.proofs.Asking.{LawfulFamily, lawful_of}
 use Rattle.stages.proofs.Lawful.{Lawful, some_or_none, link_is_placed}
 use Rattle.tree_family.specs.Choices.{tree_smallest, tree_largest}

@@ -1,6 +1,6 @@
 -- The first refusal of checks that stand one list behind the other: that of the first list, or where
 -- it has none that of the second. By going along the first list.
-use Rattle.std.proofs.Common.{◌≡◌, Bool, true, false, cond, List, [], ◌∷◌, ◌++◌, Some, None, Option, refl}
+use Rattle.std.proofs.Common.{◌≡◌, Bool, true, false, cond, List, [], ◌∷◌, ◌++◌, Some, None, refl}
 use Rattle.refusal.specs.Checks.{Check, first}
 use Rattle.refusal.specs.declared.Refusal.{Refusal}
 

@@ -1,18 +1,18 @@
 -- A run under way: states after each call so far, each next one what the call made of the one before. It is
 -- carried on by one call at a time, and at the end it is the law of runs.
-use Rattle.std.proofs.Common.{◌≡◌, ℕ, zero, suc, ◌+◌, ◌<◌, ◌≤◌, Bool, true, false, cond, leb, ◌⊎◌, List, [], ◌∷◌, map, length, get_or, set, replicate, is_some, Some, None, Option, sym, refl, ap, ◌∙◌, subst, inl, inr, ⊎_elim, add-one, arith}
+use Rattle.std.proofs.Common.{◌≡◌, ℕ, zero, suc, ◌+◌, ◌<◌, ◌≤◌, true, false, cond, leb, List, [], ◌∷◌, length, set, is_some, Some, None, Option, sym, refl, ap, ◌∙◌, subst, ⊎_elim, add-one, arith}
 use Rattle.std.specs.List.{slice_get}
-use Rattle.std.proofs.lemmas.List.{get_or-replicate, get_or_past, length-replicate, length-set}
+use Rattle.std.proofs.lemmas.List.{get_or-replicate, get_or_past, length-replicate}
 use Rattle.std.proofs.lemmas.Option.{slice_get_past}
 use Rattle.std.proofs.lemmas.Bool.{both_ways, cases_lt, cases_eq, le-leb, lt-leb}
 use Rattle.digraph.specs.Links.{link_at}
 use Rattle.digraph.specs.declared.link.Link.{Link}
 use Rattle.refusal.specs.declared.Refusal.{Refusal}
-use Rattle.sheet.specs.Held.{Held, opened}
+use Rattle.sheet.specs.Held.{opened}
 use Rattle.stages.proofs.Lawful.{some_or_none}
 use Rattle.run.specs.States.{State, state, at_first}
 use Rattle.run.specs.History.{refusal_of, Shows}
-use Rattle.run.specs.Made.{Kinds, Made, RefusedBy, Became, Plain, QuoteBecame, CoverBecame, sheet_after, column_after, QuoteMade, CoverMade}
+use Rattle.run.specs.Made.{Kinds, Made, Became, sheet_after, column_after}
 use Rattle.run.specs.Season.{Season}
 use Rattle.run.specs.declared.calls.Call.{Call}
 use Rattle.run.specs.declared.calls.Call.TheVariants.{Add, Reprice, Withdraw, Install, Quote, Cover}

@@ -1,18 +1,16 @@
 -- What a history shows, one call on: by the kind of the call, and whether it was accepted.
-use Rattle.std.proofs.Common.{◌≡◌, ℕ, suc, ◌<◌, Bool, true, false, cond, ◌⊎◌, List, [], ◌∷◌, ◌++◌, map, length, set, ℤ, is_some, Some, None, Option, sym, refl, ap, ◌∙◌, subst, inl, inr, ⊎_elim, arith}
+use Rattle.std.proofs.Common.{◌≡◌, ℕ, suc, Bool, true, false, cond, List, [], ◌∷◌, ◌++◌, length, set, ℤ, is_some, Some, None, Option, sym, refl, ap, ◌∙◌, inl, inr, arith}
 use Rattle.std.specs.List.{slice_get}
 use Rattle.std.proofs.lemmas.List.{length-map, length-set}
-use Rattle.std.proofs.lemmas.Bool.{both_ways, not-true, not-false}
+use Rattle.std.proofs.lemmas.Bool.{both_ways}
 use Rattle.std.proofs.lemmas.Bool.Decides.{nat_tests}
-use Rattle.digraph.specs.Links.{Slots, link_at}
+use Rattle.digraph.specs.Links.{link_at}
 use Rattle.digraph.specs.declared.link.Link.{Link}
 use Rattle.refusal.specs.Checks.{Check, first}
-use Rattle.refusal.specs.declared.Refusal.{Refusal}
 use Rattle.sheet.specs.Calls.{column_checks, link_checks, add_checks, reprice_checks, withdraw_checks}
 use Rattle.sheet.specs.Held.{Held, with_link, with_tree}
 use Rattle.sheet.proofs.Columns.{passed_column_is_sized, passed_link_is_numbered, link_is_numbered}
-use Rattle.stages.proofs.Lawful.{some_or_none}
-use Rattle.run.specs.States.{State, state}
+use Rattle.run.specs.States.{State}
 use Rattle.run.specs.History.{refusal_of, AcceptedAt, AddedAt, WithdrawnAt, PricedAt, InstalledAt, Shows}
 use Rattle.run.specs.Made.{Kinds, Made, prices_of, sheet_after, column_after}
 use Rattle.run.specs.declared.calls.Call.{Call}

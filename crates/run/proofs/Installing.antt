@@ -7,7 +7,7 @@ use Rattle.refusal.specs.Checks.{first}
 use Rattle.refusal.specs.declared.Refusal.{Refusal}
 use Rattle.sheet.specs.Calls.{install_checks}
 use Rattle.sheet.specs.Held.{Held, with_tree}
-use Rattle.run.specs.States.{State, state}
+use Rattle.run.specs.States.{state}
 use Rattle.run.specs.Made.{Kinds, Made, outcome_of}
 use Rattle.run.specs.declared.calls.Call.TheVariants.{Install}
 

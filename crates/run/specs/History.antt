@@ -5,7 +5,6 @@ use Rattle.digraph.specs.Links.{link_at}
 use Rattle.digraph.specs.declared.link.Link.{Link}
 use Rattle.refusal.specs.declared.Refusal.{Refusal}
 use Rattle.sheet.specs.Held.{Held}
-use Rattle.run.specs.States.{State}
 use Rattle.run.specs.declared.calls.Call.{Call}
 use Rattle.run.specs.declared.calls.Call.TheVariants.{Add, Reprice, Withdraw, Install}
 use Rattle.run.specs.declared.calls.Outcome.{Outcome}

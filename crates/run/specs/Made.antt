@@ -1,5 +1,5 @@
 -- One call: what refuses it, what it moves on the sheet and in the column, and what it fills.
-use Rattle.std.specs.Prelude.{◌≡◌, ℕ, Bool, true, cond, not, List, map, ℤ, is_some, Some, None, Ok, Err, Decides, Option, Result, slice_set}
+use Rattle.std.specs.Prelude.{◌≡◌, ℕ, Bool, cond, List, map, ℤ, is_some, Some, None, Ok, Err, Decides, Option, Result, slice_set}
 use Rattle.cover.specs.Filled.{Filled, Small}
 use Rattle.cover.specs.Memory.{memory_sized}
 use Rattle.cover.specs.Ready.{cover_checks}

@@ -1,5 +1,5 @@
 -- The law of runs: what holds at every place of a list of calls, however long, said of the history.
-use Rattle.std.specs.Prelude.{◌≡◌, ℕ, suc, ◌<◌, ◌≤◌, true, not, ◌||◌, List, [], ◌∷◌, map, length, is_some, Some, None, ◌==◌, nat_lt}
+use Rattle.std.specs.Prelude.{◌≡◌, ℕ, suc, ◌≤◌, true, not, ◌||◌, List, [], ◌∷◌, map, length, is_some, Some, ◌==◌, nat_lt}
 use Rattle.std.specs.List.{slice_get}
 use Rattle.quote.specs.Trees.{KeepsTheTree, NoSmallerConcession}
 use Rattle.refusal.specs.Checks.{Check, ◌refuses_with◌}

@@ -1,5 +1,5 @@
 -- What every sheet holds is sound: its ghost fields, read off for `held`.
-use Rattle.std.proofs.Common.{◌≡◌, ℕ, ◌-◌, List, take, Some, None, Option, sym, refl, subst, arith}
+use Rattle.std.proofs.Common.{◌≡◌, ℕ, ◌-◌, List, take, Some, None, Option, refl, subst, arith}
 use mathlib.Core.Logic.{∥∥₁_map}
 use Rattle.std.specs.Option.{option_map}
 use Rattle.digraph.specs.Links.{Slots}

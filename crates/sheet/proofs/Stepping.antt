@@ -1,6 +1,6 @@
 -- A search over the steps along a list of links decides whether the list is a spanning tree: every
 -- station is seen, and no other, exactly if a path along the list leads to each.
-use Rattle.std.proofs.Common.{◌≡◌, ℕ, zero, suc, ◌+◌, ◌-◌, ◌^◌, ◌<◌, ◌≤◌, Bool, true, ◌&&◌, eqb, List, [], ◌∷◌, map, length, get_or, replicate, is_some, Some, None, Decides, Option, sym, refl, ap, ◌∙◌, subst, arith}
+use Rattle.std.proofs.Common.{◌≡◌, ℕ, zero, suc, ◌+◌, ◌-◌, ◌^◌, ◌<◌, ◌≤◌, true, eqb, List, [], ◌∷◌, map, length, get_or, replicate, is_some, None, Decides, sym, ◌∙◌, subst, arith}
 use Rattle.std.proofs.lemmas.Nat.{pow_pos}
 use Rattle.std.proofs.lemmas.List.{get_or-map, length-map}
 use Rattle.std.proofs.lemmas.Bool.{eq-eqb, eqb-true, and_parts}
@@ -11,7 +11,6 @@ use Rattle.digraph.specs.Paths.{Path, stay, step}
 use Rattle.digraph.specs.Search.{Next}
 use Rattle.digraph.specs.Steps.{steps_from}
 use Rattle.digraph.specs.Trees.{Along, SpanningTree}
-use Rattle.digraph.specs.declared.link.Link.{Link}
 use Rattle.digraph.proofs.Stepping.{AllLow, Somewhere, next_somewhere, somewhere_next}
 use Rattle.digraph.proofs.Walks.{path_by_other_steps}
 use Rattle.sheet.specs.Calls.{all_links}

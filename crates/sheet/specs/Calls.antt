@@ -1,8 +1,8 @@
 -- What turns each call on a sheet back, the checks in their order. A price column is given by the
 -- parts of its amounts, place by place.
-use Rattle.std.specs.Prelude.{ℕ, ◌-◌, Bool, true, false, not, ◌&&◌, ◌||◌, ltb, List, [], ◌∷◌, ◌++◌, length, ℤ, is_some, Some, None, ◌==◌, nat_eq, nat_le, nat_lt, slice_index_or}
+use Rattle.std.specs.Prelude.{ℕ, ◌-◌, Bool, true, false, not, ◌&&◌, ◌||◌, ltb, List, [], ◌∷◌, ◌++◌, length, ℤ, is_some, ◌==◌, nat_eq, nat_le, nat_lt, slice_index_or}
 use Rattle.amount.specs.Parts.{legal}
-use Rattle.std.specs.Option.{unwrap_or, option_map}
+use Rattle.std.specs.Option.{unwrap_or}
 use Rattle.digraph.specs.Links.{Slots, link_at}
 use Rattle.refusal.specs.Checks.{Check, ◌refuses_with◌}
 use Rattle.refusal.specs.declared.Refusal.TheVariants.{ColumnSize, PriceInColumn, StationCount, LinkNumber, LinkInUse, NoSuchStation, EqualEnds, PriceOffered, NoSuchLink, LinkInTree, TreeLength, StationNotReached}

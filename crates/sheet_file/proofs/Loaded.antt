@@ -1,13 +1,13 @@
 -- Loading is placing every link on a sheet of its own and writing the prices afterwards: the checks of
 -- the column pass at every record, since it has 200 places and every price put so far is legal.
-use Rattle.std.proofs.Common.{◌≡◌, ℕ, zero, suc, ◌+◌, ◌-◌, ◌/◌, ◌%◌, ◌<◌, ◌≤◌, min, Bool, true, false, cond, not, ◌&&◌, ◌||◌, eqb, List, [], ◌∷◌, length, take, drop, set, replicate, ℤ, is_some, is_ok, Some, None, Ok, Err, Decides, Option, Result, sym, refl, ap, ◌∙◌, subst, arith}
+use Rattle.std.proofs.Common.{◌≡◌, ℕ, zero, suc, ◌+◌, ◌/◌, ◌<◌, ◌≤◌, Bool, true, false, cond, not, ◌||◌, eqb, List, [], ◌∷◌, length, set, replicate, ℤ, is_some, is_ok, Some, None, Ok, Err, Decides, Option, Result, sym, refl, ap, ◌∙◌, subst, arith}
 use Rattle.std.specs.Result.{result_map_both}
 use Rattle.std.proofs.lemmas.List.{length-set, length-take, length-drop, nil_from_length}
 use Rattle.std.proofs.lemmas.Bool.{and_parts, and_from, eq-eqb, ne_eqb, true≢false, false≢true}
 use Rattle.std.proofs.lemmas.Bool.Decides.{nat_tests}
 use Rattle.amount.specs.Parts.{legal}
 use Rattle.amount.specs.Records.{length_of_record}
-use Rattle.digraph.specs.Links.{Slots, link_at}
+use Rattle.digraph.specs.Links.{Slots}
 use Rattle.digraph.specs.Trees.{SpanningTree}
 use Rattle.digraph.specs.declared.link.Link.{Link}
 use Rattle.refusal.specs.Checks.{first}

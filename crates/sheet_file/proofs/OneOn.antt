@@ -1,6 +1,6 @@
 -- The loops over a file's records, one record on: what is still to come brings the sheet, or the
 -- column, to the answer. By taking the first record off those to come.
-use Rattle.std.proofs.Common.{◌≡◌, ℕ, zero, suc, ◌+◌, ◌-◌, ◌*◌, ◌/◌, ◌<◌, ◌≤◌, Bool, true, false, ◌||◌, eqb, List, [], ◌∷◌, get_or, set, ℤ, Some, None, Ok, Err, Result, sym, refl, ap, ◌∙◌, subst, suc-mul, div-mul-le_self, arith}
+use Rattle.std.proofs.Common.{◌≡◌, ℕ, zero, suc, ◌+◌, ◌-◌, ◌*◌, ◌/◌, ◌<◌, ◌≤◌, false, eqb, List, ◌∷◌, set, ℤ, Some, None, Err, sym, ap, ◌∙◌, suc-mul, div-mul-le_self, arith}
 use Rattle.std.proofs.lemmas.Nat.{mul-le}
 use Rattle.std.proofs.lemmas.Bool.{or_parts, eqb-false}
 use Rattle.refusal.specs.Checks.{first}

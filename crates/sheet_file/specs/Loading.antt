@@ -1,6 +1,6 @@
 -- What loading a file comes to: opening, adding and installing what it says, by those calls' own
 -- definitions.
-use Rattle.std.specs.Prelude.{ℕ, ◌+◌, Bool, true, false, cond, not, ◌||◌, List, [], ◌∷◌, length, replicate, ℤ, Some, None, Ok, Err, Option, Result, ◌==◌, slice_set}
+use Rattle.std.specs.Prelude.{ℕ, ◌+◌, Bool, false, not, ◌||◌, List, [], ◌∷◌, length, replicate, ℤ, Some, None, Ok, Err, Option, Result, ◌==◌, slice_set}
 use Rattle.refusal.specs.Checks.{Check, first, ◌refuses_with◌}
 use Rattle.refusal.specs.Numbers.{number_of}
 use Rattle.refusal.specs.declared.Refusal.{Refusal}

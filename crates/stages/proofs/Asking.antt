@@ -1,11 +1,11 @@
 -- From a family's laws, a sheet and a column that passed their checks to what the stages rest on.
 -- Each part is read off what is known; only the prices take an induction, over the links' places.
-use Rattle.std.proofs.Common.{◌≡◌, ℕ, zero, suc, ◌^◌, ◌<◌, ◌≤◌, Bool, true, false, not, ◌&&◌, ◌||◌, ◌⊎◌, List, [], ◌∷◌, map, length, get_or, replicate, ℤ, is_some, Some, None, Option, sym, refl, ap, ◌∙◌, subst, inl, inr, ⊎_elim, arith}
+use Rattle.std.proofs.Common.{◌≡◌, ℕ, zero, suc, ◌^◌, ◌<◌, true, false, not, List, [], ◌∷◌, map, length, get_or, replicate, ℤ, Some, None, Option, sym, refl, subst, ⊎_elim, arith}
 use lib.Bits.{bit_and, bit_or}
 use Rattle.std.proofs.lemmas.Bool.{both_ways, and_parts, or_cases, not-true}
 use Rattle.amount.specs.Parts.{legal}
 use Rattle.digraph.specs.Entering.{Entered}
-use Rattle.digraph.specs.Links.{Slots, link_at}
+use Rattle.digraph.specs.Links.{Slots}
 use Rattle.stations.specs.Sets.{In}
 use Rattle.stations.proofs.Digits.{none_or_some}
 use Rattle.duality.specs.Families.{Family}

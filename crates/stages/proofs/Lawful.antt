@@ -1,18 +1,17 @@
 -- What the stages rest on: a family that answers lawfully for n stations, legal prices, and that the links
 -- enter every member. What follows at once for marks and prices.
-use Rattle.std.proofs.Common.{◌≡◌, ℕ, zero, suc, ◌<◌, ◌≤◌, Bool, true, false, cond, not, ◌&&◌, eqb, ◌⊎◌, List, [], map, length, get_or, set, replicate, ℤ, is_some, Some, None, Option, unwrap_or, sym, refl, ap, ◌∙◌, subst, inl, inr, ⊎_elim, arith}
+use Rattle.std.proofs.Common.{◌≡◌, ℕ, ◌<◌, ◌≤◌, Bool, true, false, cond, not, eqb, ◌⊎◌, List, [], length, get_or, set, replicate, is_some, Some, None, Option, unwrap_or, sym, refl, ap, ◌∙◌, inl, inr, ⊎_elim, arith}
 use Rattle.std.proofs.lemmas.List.FromFn.{get_or-map-range_with_len, length-map-range_with_len}
 use Rattle.std.proofs.lemmas.List.{get_or_past, get_or-set_same, get_or-set_other}
-use Rattle.std.proofs.lemmas.Bool.{both_ways, cases_lt, and_parts, eq-eqb, ne_eqb}
+use Rattle.std.proofs.lemmas.Bool.{both_ways, cases_lt}
 use Rattle.amount.specs.Parts.{legal}
 use Rattle.digraph.specs.Entering.{enters, enters_at, marked, Entered}
 use Rattle.digraph.specs.Links.{Slots, link_at}
 use Rattle.digraph.specs.declared.link.Link.{Link}
 use Rattle.duality.specs.Families.{Family}
 use Rattle.duality.specs.Trees.{is_link}
-use Rattle.duality.proofs.Entering.{entering_is_listed}
 use Rattle.family.specs.Laws.{Smallest, Largest}
-use Rattle.stages.specs.Asked.{Asked, for_each, price_of}
+use Rattle.stages.specs.Asked.{Asked, for_each}
 
 pub record Lawful (n : ℕ) (a : Asked) (Member : ℕ → Type 0) : Type 0 where
   pub family : Family n Member

@@ -1,16 +1,16 @@
 -- Stage 1, set by set: what is left keeps its width and never falls below nothing, the links with nothing
 -- left are the marked ones, and so the sets, amounts and remainders are a packing of the general theory.
-use Rattle.std.proofs.Common.{◌≡◌, ℕ, zero, suc, ◌+◌, ◌*◌, ◌<◌, ◌≤◌, Bool, true, false, cond, not, ◌&&◌, ◌⊎◌, List, [], ◌∷◌, length, get_or, replicate, ℤ, pos, neg_ℤ, is_some, Some, None, Option, unwrap_or, sym, refl, ap, ◌∙◌, subst, ap₂, inl, inr, ⊎_elim, arith}
+use Rattle.std.proofs.Common.{◌≡◌, ℕ, zero, suc, ◌+◌, ◌*◌, ◌<◌, ◌≤◌, Bool, true, false, cond, not, ◌&&◌, List, [], ◌∷◌, length, get_or, replicate, ℤ, pos, neg_ℤ, is_some, Some, None, Option, unwrap_or, sym, refl, ap, ◌∙◌, subst, arith}
 use lib.Signed.{le_z}
 use Rattle.std.proofs.lemmas.List.FromFn.{get_or-map-range_with_len, length-map-range_with_len}
 use Rattle.std.proofs.lemmas.List.{get_or_past}
 use Rattle.std.proofs.lemmas.Int.{ints}
-use Rattle.std.proofs.lemmas.Bool.{both_ways, cases_lt, cases_Bool, and_parts, and_from, and_left, not-true, not_from_false}
-use Rattle.amount.specs.Parts.{minus, below, nothing, within, legal, Fitting}
+use Rattle.std.proofs.lemmas.Bool.{both_ways, and_parts, and_from, and_left, not-true, not_from_false}
+use Rattle.amount.specs.Parts.{minus, below, nothing, within, Fitting}
 use Rattle.amount.proofs.Group.{length_nothing, length_minus, minus_below_nothing}
 use Rattle.amount.proofs.Order.{not_below_itself, equal_if_neither_below}
-use Rattle.digraph.specs.Entering.{enters_at, marked, Entered, EnteredBy}
-use Rattle.digraph.specs.Links.{Slots, link_at}
+use Rattle.digraph.specs.Entering.{enters_at, marked, Entered}
+use Rattle.digraph.specs.Links.{Slots}
 use Rattle.stations.specs.Sets.{Part}
 use Rattle.duality.specs.Stages.{Packed}
 use Rattle.duality.specs.Trees.{is_link}
@@ -19,8 +19,8 @@ use Rattle.duality.proofs.Levels.{Within}
 use Rattle.duality.proofs.Listed.{few_and_nested, left_parts_within, amount_parts_within}
 use Rattle.duality.proofs.Wide.{part, fitting_of_parts}
 use Rattle.family.specs.Laws.{Smallest}
-use Rattle.stages.specs.Asked.{Asked, for_each, price_of}
-use Rattle.stages.specs.Packing.{Left, left_of, used_up, used_marks, next_set, tightest, amount_of, lowered, stepped, left_after, answer_after, set_at, amount_at}
+use Rattle.stages.specs.Asked.{Asked, price_of}
+use Rattle.stages.specs.Packing.{Left, left_of, used_up, used_marks, tightest, amount_of, lowered, stepped, left_after, answer_after, set_at, amount_at}
 use Rattle.stages.proofs.Lawful.{Lawful, some_value, entering_is_link, link_is_placed, marked_each}
 use Rattle.stages.proofs.Tightest.{tightest_enters, no_less_left}
 

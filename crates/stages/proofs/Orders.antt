@@ -1,20 +1,19 @@
 -- The links in the order in which they came to nothing: they are just the used-up ones, the order only
 -- grows at its end, and so the first of them that enters a set came to nothing as early as any that does.
-use Rattle.std.proofs.Common.{◌≡◌, ℕ, zero, suc, ◌+◌, ◌-◌, ◌<◌, ◌≤◌, Bool, true, false, cond, not, ◌&&◌, ◌⊎◌, List, [], ◌∷◌, ◌++◌, length, get_or, ℤ, is_some, Some, None, filter, Option, unwrap_or, sym, refl, ap, ◌∙◌, subst, inl, inr, ⊎_elim, arith}
+use Rattle.std.proofs.Common.{◌≡◌, ℕ, zero, suc, ◌+◌, ◌-◌, ◌<◌, ◌≤◌, Bool, true, false, cond, not, ◌&&◌, List, [], ◌∷◌, ◌++◌, ℤ, is_some, Some, None, filter, unwrap_or, sym, refl, ap, ◌∙◌, subst, ⊎_elim, arith}
 use Rattle.std.specs.List.{range_with_len, AllByRecursion as All}
 use Rattle.std.proofs.lemmas.List.FromFn.{length-range_with_len, get_or-range_with_len}
 use Rattle.std.proofs.ByRecursion.{All-get_or, All-append, All-weaker, kept_by_passes}
 use Rattle.std.proofs.lemmas.Bool.{both_ways, cases_Bool, and_parts, and_from}
 use Rattle.amount.specs.Parts.{minus, below, nothing}
-use Rattle.digraph.specs.Entering.{enters_at, EnteredBy}
+use Rattle.digraph.specs.Entering.{enters_at}
 use Rattle.digraph.specs.Links.{Slots}
 use Rattle.duality.specs.Trees.{is_link}
-use Rattle.duality.proofs.Entering.{entering_is_listed}
 use Rattle.stages.specs.Asked.{Asked}
 use Rattle.stages.specs.Packing.{left_of, used_up, left_after, answer_after, set_at, amount_at, coming_to_nothing, order_after}
 use Rattle.stages.specs.Taking.{first_entering}
 use Rattle.stages.proofs.Lawful.{Lawful, some_value, some_or_none, link_is_placed, not_none}
-use Rattle.stages.proofs.Lefts.{left_falls, used_up→nothing, nothing→used_up, set_is_unused}
+use Rattle.stages.proofs.Lefts.{left_falls, set_is_unused}
 
 -- ---- what holds of all that is kept
 

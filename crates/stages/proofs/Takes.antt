@@ -1,15 +1,14 @@
 -- Stages 2 and 3: the links taken are taken as the general theory asks, what is kept of them still enters
 -- every member, and so it is a cheapest cover.
-use Rattle.std.proofs.Common.{◌≡◌, ℕ, zero, suc, ◌+◌, ◌<◌, ◌≤◌, Bool, true, false, cond, not, eqb, ◌⊎◌, List, [], length, get_or, set, replicate, ℤ, is_some, Some, None, Option, unwrap_or, sym, refl, ap, ◌∙◌, subst, ap₂, inl, inr, ⊎_elim, arith}
+use Rattle.std.proofs.Common.{◌≡◌, ℕ, zero, suc, ◌<◌, ◌≤◌, Bool, true, false, cond, not, eqb, ◌⊎◌, List, length, set, replicate, ℤ, is_some, Some, None, Option, unwrap_or, sym, refl, ap, ◌∙◌, subst, ap₂, inl, inr, ⊎_elim, arith}
 use Rattle.std.proofs.lemmas.List.{length-set, length-replicate, get_or-replicate}
-use Rattle.std.proofs.lemmas.Bool.{both_ways, cases_eq, cases_Bool}
+use Rattle.std.proofs.lemmas.Bool.{both_ways, cases_eq}
 use Rattle.amount.specs.Parts.{plus, below, nothing}
-use Rattle.digraph.specs.Entering.{enters_at, marked, Entered, EnteredBy}
+use Rattle.digraph.specs.Entering.{enters_at, marked}
 use Rattle.digraph.specs.Links.{Slots}
-use Rattle.stations.specs.Sets.{Part}
 use Rattle.duality.specs.Costs.{summed, cost_of}
 use Rattle.duality.specs.Families.{Covering}
-use Rattle.duality.specs.Stages.{Packed, Taken, OneOf, Cheapest}
+use Rattle.duality.specs.Stages.{Taken, OneOf, Cheapest}
 use Rattle.duality.specs.Trees.{is_link}
 use Rattle.duality.proofs.Entering.{entering_is_listed}
 use Rattle.duality.proofs.Listed.{kept_cheapest}
@@ -20,7 +19,7 @@ use Rattle.stages.specs.Taking.{first_entering, with_mark, taking, taken_after}
 use Rattle.stages.specs.Keeping.{spared, kept_of}
 use Rattle.stages.specs.Done.{Done, taken_marks}
 use Rattle.stages.specs.Theorems.{CheapestCover, cost_in_force}
-use Rattle.stages.proofs.Lawful.{Lawful, some_value, some_or_none, not_none, entering_is_link, marked_set_same, marked_set_other, marked_clear_same, marked_is_placed}
+use Rattle.stages.proofs.Lawful.{Lawful, some_value, some_or_none, entering_is_link, marked_set_same, marked_set_other, marked_clear_same, marked_is_placed}
 use Rattle.stages.proofs.Lefts.{left_of_first, marked_is_used_up, used_up→nothing, nothing→used_up, packed_stage}
 use Rattle.stages.proofs.Orders.{earliest, earliest_is_some, earliest_enters, earliest_used_up, none_earlier}
 

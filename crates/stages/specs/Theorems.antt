@@ -1,7 +1,7 @@
 -- What the three stages come to, in words that know nothing of stages.
-use Rattle.std.specs.Prelude.{◌≡◌, ℕ, ◌<◌, ◌≤◌, Bool, true, false, List, ℤ}
-use Rattle.amount.specs.Parts.{below, within}
-use Rattle.digraph.specs.Entering.{marked, EnteredBy}
+use Rattle.std.specs.Prelude.{◌≡◌, ℕ, Bool, true, false, List, ℤ}
+use Rattle.amount.specs.Parts.{below}
+use Rattle.digraph.specs.Entering.{marked}
 use Rattle.duality.specs.Costs.{cost_of}
 use Rattle.duality.specs.Families.{Covering}
 use Rattle.duality.specs.Trees.{is_link}

@@ -1,6 +1,6 @@
-use Rattle.std.proofs.Common.{◌≡◌, map, sym, refl, ◌∙◌}
+use Rattle.std.proofs.Common.{map, sym, refl}
 use Rattle.std.proofs.lemmas.Result.{err_from_is_err_and}
-use Rattle.refusal.proofs.Firsts.{first_of_front, first_of_back}
+use Rattle.refusal.proofs.Firsts.{first_of_front}
 use Rattle.sheet.specs.Calls.{column_checks}
 use Rattle.sheet.specs.Held.{held}
 use Rattle.cover.specs.Ready.{family_checks}

@@ -1,9 +1,7 @@
-use Rattle.std.proofs.Common.{◌≡◌, ℕ, suc, ◌+◌, ◌<◌, length, get_or, take, set, replicate, Some, None, sym, refl, ap, ◌∙◌, subst, arith}
+use Rattle.std.proofs.Common.{take, sym, ap, ◌∙◌, arith}
 use Rattle.sheet.specs.Held.{held}
-use Rattle.stages.specs.Taking.{first_entering, taken_after}
 use Rattle.stages.proofs.Takes.{none_taken}
 use Rattle.cover.proofs.TakingTurn.{some_is_found, link_is_numbered, fewer_unmarked, one_turn_more}
-use Rattle.cover.proofs.taking.take.Given as given
 use Rattle.cover.proofs.taking.take.Goals as goal
 
 pub loop-set-init : goal.loop-set-init

@@ -1,4 +1,4 @@
-use Rattle.std.proofs.Common.{◌≡◌, ℕ, ◌^◌, ◌<◌, get_or, Decides, sym, ap, ◌∙◌, subst, arith}
+use Rattle.std.proofs.Common.{◌^◌, ◌<◌, get_or, Decides, sym, ap, ◌∙◌, subst, arith}
 use Rattle.stations.specs.Sets.{In, Part, has}
 use Rattle.digraph.specs.Paths.{Path}
 use Rattle.digraph.specs.Search.{Next, reach_set}

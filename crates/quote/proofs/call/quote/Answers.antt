@@ -1,4 +1,4 @@
-use Rattle.std.proofs.Common.{◌≡◌, map, sym, refl, ap, ◌∙◌}
+use Rattle.std.proofs.Common.{map, sym, refl, ◌∙◌}
 use Rattle.std.proofs.lemmas.Result.{err_from_is_err_and}
 use Rattle.refusal.proofs.Firsts.{first_of_front}
 use Rattle.sheet.specs.Calls.{column_checks}

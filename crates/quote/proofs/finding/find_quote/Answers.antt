@@ -1,4 +1,4 @@
-use Rattle.std.proofs.Common.{◌≡◌, ℕ, ◌<◌, ◌≤◌, true, false, List, [], map, length, get_or, ℤ, is_some, sym, refl, ap, ◌∙◌, subst, arith}
+use Rattle.std.proofs.Common.{◌≡◌, ℕ, ◌<◌, ◌≤◌, true, false, List, [], map, length, get_or, ℤ, is_some, sym, ap, ◌∙◌, subst, arith}
 use Rattle.cover.specs.Filled.{Filled, Small}
 use Rattle.cover.specs.Memory.{Memory, memory, room}
 use Rattle.cover.specs.Ready.{Ready}
@@ -9,7 +9,6 @@ use Rattle.stages.specs.Asked.{asked_of}
 use Rattle.stages.proofs.Asking.{column_wide}
 use Rattle.tree_family.specs.Choices.{tree_smallest, tree_largest}
 use Rattle.tree_family.specs.declared.tree.TreeFamily.{TreeFamily}
-use Rattle.tree_shape.specs.Trees.{tree_of}
 use Rattle.amount.specs.Parts.{minus, within, Fitting}
 use Rattle.cuts.specs.Families.{listed}
 use Rattle.duality.specs.Trees.{cost_of_list}

@@ -2,7 +2,7 @@ use Rattle.std.proofs.Common.{sym, subst}
 use Rattle.quote.specs.Memory.{quote_memory}
 use Rattle.sheet.specs.Held.{held}
 use Rattle.run.specs.States.{state}
-use Rattle.run.specs.Made.{Made, kinds, outcome_of}
+use Rattle.run.specs.Made.{Made, kinds}
 use Rattle.run.proofs.Installing.{install_made}
 use Rattle.run.proofs.making.make.Goals as goal
 

@@ -1,7 +1,6 @@
 -- Each turn makes one call more; at the end the run so far is the whole run.
-use Rattle.std.proofs.Common.{◌≡◌, ◌+◌, ◌<◌, length, sym, refl, ap, ◌∙◌, subst, Some, arith}
+use Rattle.std.proofs.Common.{◌≡◌, ◌+◌, length, sym, refl, ap, ◌∙◌, subst, arith}
 use Rattle.std.proofs.lemmas.Option.{slice_get_read}
-use Rattle.std.specs.List.{slice_get}
 use Rattle.quote.specs.Memory.{quote_memory}
 use Rattle.sheet.specs.Held.{held}
 use Rattle.run.specs.Made.{kinds}

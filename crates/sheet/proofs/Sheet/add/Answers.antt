@@ -1,7 +1,7 @@
-use Rattle.std.proofs.Common.{◌≡◌, ◌<◌, map, length, sym, refl, ◌∙◌, arith, rules}
+use Rattle.std.proofs.Common.{◌<◌, map, length, sym, refl, arith, rules}
 use Rattle.std.proofs.lemmas.List.{length-map}
 use Rattle.std.proofs.lemmas.Result.{err_from_is_err_and}
-use Rattle.refusal.proofs.Firsts.{first_of_front, first_of_back}
+use Rattle.refusal.proofs.Firsts.{first_of_front}
 use Rattle.sheet.specs.Calls.{column_checks, link_checks}
 use Rattle.sheet.specs.Held.{held}
 use Rattle.sheet.proofs.Columns.{passed_column_is_sized, passed_link_is_numbered}

@@ -1,5 +1,4 @@
-use Rattle.std.proofs.Common.{◌≡◌, None, sym, ◌∙◌, subst, arith}
-use Rattle.std.proofs.lemmas.Bool.Decides.{nat_tests}
+use Rattle.std.proofs.Common.{◌≡◌, None, sym, ◌∙◌, subst}
 use Rattle.digraph.specs.Links.{link_at}
 use Rattle.digraph.specs.Links.{Proper}
 use Rattle.sheet.specs.Keeps.{Spans}

@@ -1,5 +1,4 @@
-use Rattle.std.proofs.Common.{◌≡◌, ◌-◌, length, take, sym, ap, ◌∙◌, subst, arith}
-use Rattle.digraph.specs.Trees.{SpanningTree}
+use Rattle.std.proofs.Common.{◌≡◌, ◌-◌, length, sym, ◌∙◌}
 use Rattle.sheet.proofs.Keeping.{spans_with_tree}
 use Rattle.sheet.proofs.Sheet.plant.Goals as goal
 

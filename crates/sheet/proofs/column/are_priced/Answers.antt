@@ -1,4 +1,4 @@
-use Rattle.std.proofs.Common.{◌<◌, map, length, sym, ◌∙◌, arith, rules}
+use Rattle.std.proofs.Common.{map, sym, ◌∙◌, arith}
 use Rattle.std.proofs.lemmas.List.{length-map}
 use Rattle.sheet.proofs.Columns.{priced_one_on, not_priced_from_place, priced_at_end}
 use Rattle.sheet.proofs.column.are_priced.Goals as goal

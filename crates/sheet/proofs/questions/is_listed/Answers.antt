@@ -1,4 +1,4 @@
-use Rattle.std.proofs.Common.{sym, arith}
+use Rattle.std.proofs.Common.{sym}
 use Rattle.std.proofs.lemmas.Bool.{eq-eqb, ne_eqb}
 use Rattle.sheet.proofs.Columns.{listed_one_on, listed_from_place, not_listed_at_end}
 use Rattle.sheet.proofs.questions.is_listed.Goals as goal

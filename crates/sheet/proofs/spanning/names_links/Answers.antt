@@ -1,4 +1,4 @@
-use Rattle.std.proofs.Common.{◌≡◌, true, false, not, is_some, sym, ap, ◌∙◌, arith}
+use Rattle.std.proofs.Common.{is_some, sym, ap, ◌∙◌, arith}
 use Rattle.digraph.specs.Links.{link_at}
 use Rattle.sheet.proofs.Columns.{all_links_one_on, not_all_links_from_place, all_links_at_end}
 use Rattle.sheet.proofs.spanning.names_links.Goals as goal

@@ -1,9 +1,9 @@
-use Rattle.std.proofs.Common.{◌≡◌, ◌/◌, length, is_ok, Ok, Err, sym, ap, ◌∙◌}
+use Rattle.std.proofs.Common.{◌/◌, length, is_ok, Err, sym, ap, ◌∙◌}
 use Rattle.std.proofs.lemmas.Result.{err_from_is_err_and}
 use Rattle.std.proofs.lemmas.Bool.{eqb-true, eqb-false, false≢true}
 use Rattle.amount.specs.Records.{length_of_record}
 use Rattle.refusal.specs.declared.Refusal.TheVariants.{FileTree}
-use Rattle.sheet.specs.Held.{held, opened}
+use Rattle.sheet.specs.Held.{held}
 use Rattle.sheet_file.specs.Files.{entries_from}
 use Rattle.sheet_file.specs.Placing.{placing}
 use Rattle.sheet_file.proofs.Loaded.{record_refused, same_tree_decided, no_tree_to_plant, tree_planted, tree_refused}

@@ -1,4 +1,4 @@
-use Rattle.std.proofs.Common.{◌^◌, ◌<◌, get_or, sym, subst, arith}
+use Rattle.std.proofs.Common.{◌^◌, ◌<◌, get_or, sym, subst}
 use Rattle.family.specs.declared.reach.Direction.TheVariants.{Back}
 use Rattle.family.specs.Marking.{marked_steps_low}
 use Rattle.family.proofs.feed.FeedFamily.smallest.Goals as goal

@@ -4,7 +4,6 @@ use Rattle.sheet.specs.Held.{held}
 use Rattle.sheet.proofs.Sounds.{sheet_is_sound}
 use Rattle.family.specs.Choices.{others}
 use Rattle.family.specs.declared.reach.Direction.TheVariants.{Forth}
-use Rattle.tree_family.specs.Choices.{beside}
 use Rattle.tree_family.specs.Besides.{beside_low}
 use Rattle.tree_shape.proofs.Planted.{planted_tree}
 use Rattle.tree_family.specs.Remaining.{reach_small, remaining_is}
