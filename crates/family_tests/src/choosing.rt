@@ -4,6 +4,7 @@ use family::either::Either;
 use family::feed::Feed;
 use family::interface::Family;
 use family::route::Route;
+use std::test::Fail;
 
 #[test]
 fn a_feed_answers_as_a_feed(rt: HostRuntime) -> Result<(), Fail> {

@@ -1,6 +1,7 @@
 //! What a feed answers.
 use crate::tools::*;
 use family::interface::Family;
+use std::test::Fail;
 
 #[test]
 fn without_marks_every_set_is_left(rt: HostRuntime) -> Result<(), Fail> {

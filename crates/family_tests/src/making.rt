@@ -3,6 +3,7 @@ use crate::tools::*;
 use family::feed::Feed;
 use family::interface::Family;
 use family::route::Route;
+use std::test::Fail;
 
 /// The number that making a feed is refused with, 0 if it is made.
 fn feed_refusal(stations: u8) -> u8 {

@@ -1,6 +1,7 @@
 //! Stations reached along marked links.
 use crate::tools::*;
 use family::reach::{Direction, others, stations_reached, stations_reaching, steps};
+use std::test::Fail;
 
 #[test]
 fn steps_go_forth_and_back(rt: HostRuntime) -> Result<(), Fail> {

@@ -1,6 +1,7 @@
 //! What a route answers.
 use crate::tools::*;
 use family::interface::Family;
+use std::test::Fail;
 
 #[test]
 fn without_marks_the_end_alone_is_smallest(rt: HostRuntime) -> Result<(), Fail> {

@@ -2,6 +2,7 @@
 use crate::tools::*;
 use amount::cents_minutes::CentsMinutes;
 use sheet::Sheet;
+use std::test::Fail;
 
 #[test]
 fn a_link_and_its_price_are_kept(rt: HostRuntime) -> Result<(), Fail> {

@@ -1,6 +1,7 @@
 //! The price column that every call is lent.
 use crate::tools::*;
 use sheet::Sheet;
+use std::test::Fail;
 
 #[test]
 fn a_column_of_199_places_is_refused(rt: HostRuntime) -> Result<(), Fail> {

@@ -1,6 +1,7 @@
 //! Installing trees.
 use crate::tools::*;
 use sheet::Sheet;
+use std::test::Fail;
 
 /// The numbers 0 to 38.
 const CHAIN: [u16; 39] = [

@@ -1,6 +1,7 @@
 //! Making and opening a sheet.
 use crate::tools::*;
 use sheet::Sheet;
+use std::test::Fail;
 
 #[test]
 fn a_new_sheet_is_empty(rt: HostRuntime) {

@@ -1,5 +1,6 @@
 //! Pricing a link anew.
 use crate::tools::*;
+use std::test::Fail;
 
 #[test]
 fn reprice_writes_one_price(rt: HostRuntime) -> Result<(), Fail> {

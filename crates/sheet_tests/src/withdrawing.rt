@@ -1,5 +1,6 @@
 //! Taking links off a sheet.
 use crate::tools::*;
+use std::test::Fail;
 
 #[test]
 fn a_withdrawn_number_is_free_again(rt: HostRuntime) -> Result<(), Fail> {

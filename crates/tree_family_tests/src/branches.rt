@@ -1,6 +1,7 @@
 //! Two branches of equal depth: 1 with 3 below it, and 2 with 4 below it.
 use crate::tools::*;
 use sheet::Sheet;
+use std::test::Fail;
 
 fn branches() -> Result<Sheet, Fail> {
     planted(5, &[(0, 1), (0, 2), (1, 3), (2, 4), (3, 2)], &[0, 1, 2, 3])

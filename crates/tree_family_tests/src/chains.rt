@@ -4,6 +4,7 @@ use amount::cents::Cents;
 use digraph::table::LINKS;
 use sheet::Sheet;
 use std::process::Abort;
+use std::test::Fail;
 
 /// The chain 0, 1, 2, 3 with a link from the base to 2, and the chain as its tree.
 fn short() -> Result<Sheet, Fail> {

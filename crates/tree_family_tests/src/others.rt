@@ -1,6 +1,7 @@
 //! Sheets without a tree, and sheets other than the family's own.
 use crate::tools::*;
 use family::interface::Family;
+use std::test::Fail;
 use tree_family::tree::TreeFamily;
 
 #[test]

@@ -1,6 +1,7 @@
 //! Three stations: links from the base to 1 and to 2, and one each way between 1 and 2.
 use crate::tools::*;
 use sheet::Sheet;
+use std::test::Fail;
 
 const LINKS_OF_THREE: [(u8, u8); 4] = [(0, 1), (0, 2), (1, 2), (2, 1)];
 
