@@ -10,7 +10,7 @@ ghost use Rattle.cover.specs.Ready.{cover_checks};
 ghost use Rattle.cover.specs.Filled.{Filled, Small};
 
 use crate::checks::check_family;
-use crate::stages::{Cover, find_cover};
+use crate::in_stages::{Cover, find_cover};
 use amount::kind::Amount;
 use digraph::table::LINKS;
 use family::interface::Family;

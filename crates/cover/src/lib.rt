@@ -3,7 +3,7 @@
 
 pub mod call;
 pub mod checks;
+pub mod in_stages;
 pub mod keeping;
 pub mod packing;
-pub mod stages;
 pub mod taking;

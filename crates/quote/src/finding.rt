@@ -11,7 +11,7 @@ ghost use Rattle.quote.specs.Trees.{KeepsTheTree, NoSmallerConcession};
 use crate::revising::lower_listed;
 use crate::tree_cost::cost_of_listed;
 use amount::kind::Amount;
-use cover::stages::find_cover;
+use cover::in_stages::find_cover;
 use remainders::column::copy_prices;
 use sheet::Sheet;
 use tree_family::tree::TreeFamily;

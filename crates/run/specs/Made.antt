@@ -3,7 +3,7 @@ use Rattle.std.specs.Prelude.{◌≡◌, ℕ, Bool, cond, List, map, ℤ, is_som
 use Rattle.cover.specs.Filled.{Filled, Small}
 use Rattle.cover.specs.Memory.{memory_sized}
 use Rattle.cover.specs.Ready.{cover_checks}
-use Rattle.cover.specs.declared.stages.Cover.{Cover}
+use Rattle.cover.specs.declared.in_stages.Cover.{Cover}
 use Rattle.digraph.specs.Trees.{SpanningTree}
 use Rattle.quote.specs.Memory.{quote_memory_sized}
 use Rattle.quote.specs.Quotes.{quote_asked, quote_checks, QuoteFilled}

@@ -1,5 +1,5 @@
 //! The calls of a run, and what becomes of them.
-use cover::stages::Cover;
+use cover::in_stages::Cover;
 use quote::finding::Quote;
 use refusal::Refusal;
 

@@ -14,8 +14,8 @@ use Rattle.cover.specs.Ready.{Ready}
 use Rattle.cover.specs.Turns.{Findable}
 use Rattle.cover.proofs.Readiness.{ready_is_lawful}
 use Rattle.cover.proofs.Finding.{stage_2_finds, stages_done, marked_price_small, cost_is, stays_small, cheapest_of}
-use Rattle.cover.proofs.stages.find_cover.Given as given
-use Rattle.cover.proofs.stages.find_cover.Goals as goal
+use Rattle.cover.proofs.in_stages.find_cover.Given as given
+use Rattle.cover.proofs.in_stages.find_cover.Goals as goal
 
 abbrev asked : (g : given.Over) → Sheet → List g.row.T.Denot → g.row.F.Denot → Asked
 asked g s prices f = asked_of g.T.Amount.width (held s) (map g.T.Amount.parts prices) (g.F.Family.small f) (g.F.Family.large f)
