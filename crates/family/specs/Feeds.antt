@@ -2,9 +2,7 @@
 -- inside it and has no fewer stations. Largest: what the base does not reach holds every unentered member.
 use Rattle.std.specs.Prelude.{◌≡◌, ℕ, zero, suc, ◌+◌, ◌-◌, ◌^◌, ◌<◌, ◌≤◌, Bool, true, false, cond, List, Some, None, Option, ◌==◌, ◌≢◌, bit_and, bit_or, count_ones, nat_lt}
 use Rattle.std.specs.Int.Bits.{and_lt}
-use Rattle.std.proofs.Common.{⊎_elim, sym, ◌∙◌, ap}
-use Rattle.std.proofs.Math.Path.{refl, subst}
-use native.Mathlib.Omega.{arith}
+use Rattle.std.proofs.Common.{⊎_elim, sym, refl, ◌∙◌, ap, subst, arith}
 use Rattle.std.proofs.lemmas.Nat.{pow_below, or_lt}
 use Rattle.std.proofs.lemmas.Bool.{both_ways, cases_Bool, cases_lt, eq-eqb, ne_eqb, eqb-true, eqb-false, ltb-true, ltb-false, cond-true, cond-false}
 use Rattle.stations.specs.Sets.{In, Part, has}

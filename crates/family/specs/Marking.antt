@@ -1,8 +1,7 @@
 -- The masks of marked links have just their steps, forth or back; so a set is closed going back
 -- exactly if no marked link enters it. By reading one link off the masks, or putting one on.
 use Rattle.std.specs.Prelude.{◌≡◌, ℕ, ◌^◌, ◌<◌, ◌≤◌, Bool, true, false, cond, not, List, map, length, Some, None, Option, ◌≢◌, slice_index, slice_index_or, refl}
-use Rattle.std.proofs.Common.{⊎_elim, ◌∙◌, subst, arith}
-use Rattle.std.proofs.Math.Path.{sym, ap}
+use Rattle.std.proofs.Common.{⊎_elim, sym, ap, ◌∙◌, subst, arith}
 use Rattle.std.specs.List.{range_with_len}
 use Rattle.std.specs.Option.{option_map}
 use Rattle.std.proofs.lemmas.List.FromFn.{get_or-map-range_with_len, length-map-range_with_len}

@@ -22,6 +22,7 @@ impl<F: Family, G: Family> Family for Either<F, G> {
 
     ghost large = { of_either F.Family.large G.Family.large };
 
+    // Each law of a family of either kind is that law of the one that it is.
     ghost inside = { elim [
       | First f ↦ λ set m. F.Family.inside f set m
       | Second f ↦ λ set m. G.Family.inside f set m

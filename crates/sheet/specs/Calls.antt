@@ -1,6 +1,6 @@
 -- What turns each call on a sheet back, the checks in their order. A price column is given by the
 -- parts of its amounts, place by place.
-use Rattle.std.specs.Prelude.{ℕ, ◌-◌, Bool, true, false, not, ◌&&◌, ◌||◌, ltb, List, [], ◌∷◌, ◌++◌, length, ℤ, is_some, ◌==◌, nat_eq, nat_le, nat_lt, slice_index_or}
+use Rattle.std.specs.Prelude.{ℕ, ◌-◌, Bool, true, false, not, ◌&&◌, ◌||◌, List, [], ◌∷◌, ◌++◌, length, ℤ, is_some, ◌==◌, nat_eq, nat_le, nat_lt, slice_index_or}
 use Rattle.amount.specs.Parts.{legal}
 use Rattle.std.specs.Option.{unwrap_or}
 use Rattle.digraph.specs.Links.{Slots, link_at}
@@ -44,7 +44,7 @@ open_checks n = ((nat_lt n 2 || nat_lt 40 n) refuses_with StationCount) ∷ []
 -- a link that cannot be added: its number, tail, head and price
 abbrev pub link_checks : Held → ℕ → ℕ → ℕ → List ℤ → List Check
 link_checks h k tail head price =
-    (ltb 199 k refuses_with LinkNumber) ∷
+    (nat_lt 199 k refuses_with LinkNumber) ∷
     (is_some (link_at h.links k) refuses_with LinkInUse) ∷
     ((nat_le h.stations tail || nat_le h.stations head) refuses_with NoSuchStation) ∷
     (nat_eq tail head refuses_with EqualEnds) ∷

@@ -1,7 +1,7 @@
 -- The links in the order in which they came to nothing: they are just the used-up ones, the order only
 -- grows at its end, and so the first of them that enters a set came to nothing as early as any that does.
 use Rattle.std.proofs.Common.{◌≡◌, ℕ, zero, suc, ◌+◌, ◌-◌, ◌<◌, ◌≤◌, Bool, true, false, cond, not, ◌&&◌, List, [], ◌∷◌, ◌++◌, ℤ, is_some, Some, None, filter, unwrap_or, sym, refl, ap, ◌∙◌, subst, ⊎_elim, arith}
-use Rattle.std.specs.List.{range_with_len, AllByRecursion as All}
+use Rattle.std.specs.List.{range_with_len, AllByRecursion}
 use Rattle.std.proofs.lemmas.List.FromFn.{length-range_with_len, get_or-range_with_len}
 use Rattle.std.proofs.ByRecursion.{All-get_or, All-append, All-weaker, kept_by_passes}
 use Rattle.std.proofs.lemmas.Bool.{both_ways, cases_Bool, and_parts, and_from}
@@ -17,21 +17,21 @@ use Rattle.stages.proofs.Lefts.{left_falls, set_is_unused}
 
 -- ---- what holds of all that is kept
 
-all_of_kept : (test : ℕ → Bool) (P : ℕ → Type 0) (xs : List ℕ) → All P (filter test xs) → All (λ x. test x ≡ true → P x) xs
+all_of_kept : (test : ℕ → Bool) (P : ℕ → Type 0) (xs : List ℕ) → AllByRecursion P (filter test xs) → AllByRecursion (λ x. test x ≡ true → P x) xs
 all_of_kept test P [] all = tt
 all_of_kept test P (x ∷ xs) all = go (test x) refl all (all_of_kept test P xs)
   where
-    go : (b : Bool) → test x ≡ b → All P (cond b (x ∷ filter test xs) (filter test xs)) → (All P (filter test xs) → All (λ y. test y ≡ true → P y) xs)
-        → (test x ≡ true → P x) × All (λ y. test y ≡ true → P y) xs
+    go : (b : Bool) → test x ≡ b → AllByRecursion P (cond b (x ∷ filter test xs) (filter test xs)) → (AllByRecursion P (filter test xs) → AllByRecursion (λ y. test y ≡ true → P y) xs)
+        → (test x ≡ true → P x) × AllByRecursion (λ y. test y ≡ true → P y) xs
     go true e (here, rest) on = (λ _. here, on rest)
     go false e rest on = (λ q. absurd (both_ways (test x) e q), on rest)
 
-all_split : (P : ℕ → Type 0) (xs ys : List ℕ) → All P (xs ++ ys) → All P xs × All P ys
+all_split : (P : ℕ → Type 0) (xs ys : List ℕ) → AllByRecursion P (xs ++ ys) → AllByRecursion P xs × AllByRecursion P ys
 all_split P [] ys all = (tt, all)
 all_split P (x ∷ xs) ys (here, rest) = let both = all_split P xs ys rest in ((here, both.0), both.1)
 
 -- what holds of the numbers kept holds of each below 200 that passes
-each_kept : (test : ℕ → Bool) (P : ℕ → Type 0) → All P (filter test (range_with_len 0 200)) → (k : ℕ) → k < 200 → test k ≡ true → P k
+each_kept : (test : ℕ → Bool) (P : ℕ → Type 0) → AllByRecursion P (filter test (range_with_len 0 200)) → (k : ℕ) → k < 200 → test k ≡ true → P k
 each_kept test P all k h =
     subst (λ x. test x ≡ true → P x) (get_or-range_with_len 0 200 k 0 h ∙ (let z : 0 + k ≡ k = omega arith in z))
     (All-get_or (λ x. test x ≡ true → P x) (range_with_len 0 200) k 0 (omega (arith, length-range_with_len 0 200)) (all_of_kept test P (range_with_len 0 200) all))
@@ -47,7 +47,7 @@ module _ (slots : Slots) (set : ℕ) where
       go true q e on = subst (λ (y : ℕ). enters_at slots y set ≡ true) (let s : x ≡ k = cc in s) q
       go false q e on = on e
 
-  pub first_is_one : (P : ℕ → Type 0) (xs : List ℕ) (k : ℕ) → All P xs → first_entering slots set xs ≡ Some k → P k
+  pub first_is_one : (P : ℕ → Type 0) (xs : List ℕ) (k : ℕ) → AllByRecursion P xs → first_entering slots set xs ≡ Some k → P k
   first_is_one P [] k all e = absurd (not_none (Some k) refl (sym e))
   first_is_one P (x ∷ xs) k (here, rest) e = go (enters_at slots x set) e (first_is_one P xs k rest)
     where
@@ -55,12 +55,12 @@ module _ (slots : Slots) (set : ℕ) where
       go true e on = subst P (let s : x ≡ k = cc in s) here
       go false e on = on e
 
-  pub none_enters : (xs : List ℕ) → first_entering slots set xs ≡ None → All (λ k. enters_at slots k set ≡ false) xs
+  pub none_enters : (xs : List ℕ) → first_entering slots set xs ≡ None → AllByRecursion (λ k. enters_at slots k set ≡ false) xs
   none_enters [] e = tt
   none_enters (x ∷ xs) e = go (enters_at slots x set) refl e (none_enters xs)
     where
-      go : (b : Bool) → enters_at slots x set ≡ b → cond b (Some x) (first_entering slots set xs) ≡ None → (first_entering slots set xs ≡ None → All (λ k. enters_at slots k set ≡ false) xs)
-          → (enters_at slots x set ≡ false) × All (λ k. enters_at slots k set ≡ false) xs
+      go : (b : Bool) → enters_at slots x set ≡ b → cond b (Some x) (first_entering slots set xs) ≡ None → (first_entering slots set xs ≡ None → AllByRecursion (λ k. enters_at slots k set ≡ false) xs)
+          → (enters_at slots x set ≡ false) × AllByRecursion (λ k. enters_at slots k set ≡ false) xs
       go true q e on = absurd (not_none (Some x) refl e)
       go false q e on = (q, on e)
 
@@ -109,7 +109,7 @@ module _ (n : ℕ) (a : Asked) (Member : ℕ → Type 0) (L : Lawful n a Member)
       (λ e. used_up_as_before i k h (used_up_is_placed i k used) e ∙ used) (cases_Bool (enters_at slots k (set_at a i)))
 
   -- what is in the order is used up
-  pub order_used_up : (i : ℕ) → i ≤ p → All (λ k. used_up a (left_after a i) k ≡ true) (order_after a i)
+  pub order_used_up : (i : ℕ) → i ≤ p → AllByRecursion (λ k. used_up a (left_after a i) k ≡ true) (order_after a i)
   unfolding order_after
   order_used_up zero h = kept_by_passes (used_up a (left_after a 0)) (range_with_len 0 200)
   order_used_up (suc i) h =
@@ -118,7 +118,7 @@ module _ (n : ℕ) (a : Asked) (Member : ℕ → Type 0) (L : Lawful n a Member)
       (All-weaker (λ k. coming_to_nothing a (left_after a (suc i)) (set_at a i) k ≡ true) (λ k. used_up a (left_after a (suc i)) k ≡ true) (λ k e. (and_parts (enters_at slots k (set_at a i)) (used_up a (left_after a (suc i)) k) e).1) (filter (coming_to_nothing a (left_after a (suc i)) (set_at a i)) (range_with_len 0 200)) (kept_by_passes (coming_to_nothing a (left_after a (suc i)) (set_at a i)) (range_with_len 0 200)))
 
   -- and what is used up is in the order
-  pub used_up_in_order : (Q : ℕ → Type 0) (i : ℕ) → i ≤ p → All Q (order_after a i) → (k : ℕ) → used_up a (left_after a i) k ≡ true → Q k
+  pub used_up_in_order : (Q : ℕ → Type 0) (i : ℕ) → i ≤ p → AllByRecursion Q (order_after a i) → (k : ℕ) → used_up a (left_after a i) k ≡ true → Q k
   unfolding order_after
   used_up_in_order Q zero h all k used = each_kept (used_up a (left_after a 0)) Q all k (used_up_is_placed 0 k used) used
   used_up_in_order Q (suc i) h all k used =
