@@ -1,6 +1,7 @@
 -- How a price stands in a file: after the three bytes of a record's number, tail and head, its parts
 -- in order, each a signed 32-bit number of four bytes, lowest byte first.
-use Rattle.std.specs.Prelude.{ℕ, zero, suc, ◌+◌, ◌-◌, ◌*◌, ◌^◌, cond, List, [], ◌∷◌, drop, ℤ, pos, negsuc, nat_lt, slice_index}
+use Rattle.std.specs.Prelude.{ℕ, zero, suc, ◌+◌, ◌*◌, List, [], ◌∷◌, drop, ℤ}
+use Rattle.std.specs.Int.{w32, from_le_bytes, cast_signed}
 
 -- the length of a link record with a price of so many parts
 abbrev pub length_of_record : ℕ → ℕ
@@ -8,11 +9,11 @@ length_of_record width = 3 + 4 * width
 
 -- four bytes as a number without a sign
 abbrev pub word : List ℕ → ℕ
-word bs = slice_index bs 0 + 256 * slice_index bs 1 + 65536 * slice_index bs 2 + 16777216 * slice_index bs 3
+word bs = from_le_bytes w32 bs
 
 -- a 32-bit number read as signed: from 2^31 on it stands for itself less 2^32
 abbrev pub signed : ℕ → ℤ
-signed n = cond (nat_lt n (2 ^ 31)) (pos n) (negsuc (2 ^ 32 - suc n))
+signed n = cast_signed w32 n
 
 -- so many parts from the front of some bytes
 abbrev pub parts_at : ℕ → List ℕ → List ℤ

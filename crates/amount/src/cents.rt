@@ -1,13 +1,15 @@
 //! Cents: amounts of one part.
-ghost use Rattle.std.specs.Prelude.{[], ◌∷◌, ℤ};
+ghost use Rattle.std.specs.Prelude.{[], ◌∷◌, ℤ, Some};
+ghost use Rattle.std.specs.Fmt.{signed_decimal};
 ghost use Rattle.std.proofs.Common.{rules};
 
 use crate::kind::Amount;
 use crate::limit::is_within;
 use crate::word::signed;
+use std::fmt;
 
 /// An amount of cents.
-#[derive(Clone, Copy)]
+#[derive(Clone, Copy, Debug, Default, PartialEq, Eq, PartialOrd, Ord)]
 pub struct Cents {
     pub cents: i64,
 }
@@ -17,26 +19,22 @@ impl Amount for Cents {
 
     ghost parts = { λ x. x.cents ∷ [] };
 
-    ghost byte = { 1 };
-
     const RECORD: usize = 7;
 
+    ghost RECORD = { 7 };
+
     const KIND: u8 = 1;
+
+    ghost KIND = { 1 };
 
     ghost some_part = { Prim.search rules };
 
     ghost as_wide = { Prim.search rules };
 
-    fn record_length() -> usize {
-        Self::RECORD
-    }
-
-    fn kind_byte() -> u8 {
-        Self::KIND
-    }
+    ghost as_long = { Prim.search rules };
 
     fn nothing() -> Cents {
-        Cents { cents: 0 }
+        Cents::default()
     }
 
     fn plus(self, other: Cents) -> Cents {
@@ -52,16 +50,24 @@ impl Amount for Cents {
     }
 
     fn is_below(self, other: Cents) -> bool {
-        self.cents < other.cents
+        self < other
     }
 
     fn is_legal(self) -> bool {
-        !self.is_below(Self::nothing()) && is_within(self.cents)
+        self >= Self::nothing() && is_within(self.cents)
     }
 
     fn read(bytes: &[u8]) -> Cents {
         Cents {
             cents: signed(bytes, 3),
         }
+    }
+}
+
+impl fmt::Display for Cents {
+    ghost output = { λ x. Some (signed_decimal x.cents) };
+
+    fn fmt<W: fmt::Write>(&self, f: &mut fmt::Formatter<W>) -> fmt::Result {
+        write!(f, "{}", self.cents)
     }
 }

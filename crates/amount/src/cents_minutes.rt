@@ -1,13 +1,15 @@
 //! Cents and airtime minutes: amounts of two parts, the cents deciding first.
-ghost use Rattle.std.specs.Prelude.{[], ◌∷◌, ℤ};
+ghost use Rattle.std.specs.Prelude.{[], ◌∷◌, ◌++◌, ℤ, Some};
+ghost use Rattle.std.specs.Fmt.{signed_decimal};
 ghost use Rattle.std.proofs.Common.{rules};
 
 use crate::kind::Amount;
 use crate::limit::is_within;
 use crate::word::signed;
+use std::fmt;
 
 /// An amount of cents and airtime minutes. Minutes may fall below zero while cents stand above zero.
-#[derive(Clone, Copy)]
+#[derive(Clone, Copy, Debug, Default, PartialEq, Eq, PartialOrd, Ord)]
 pub struct CentsMinutes {
     pub cents: i64,
     pub minutes: i64,
@@ -18,29 +20,22 @@ impl Amount for CentsMinutes {
 
     ghost parts = { λ x. x.cents ∷ x.minutes ∷ [] };
 
-    ghost byte = { 2 };
-
     const RECORD: usize = 11;
 
+    ghost RECORD = { 11 };
+
     const KIND: u8 = 2;
+
+    ghost KIND = { 2 };
 
     ghost some_part = { Prim.search rules };
 
     ghost as_wide = { Prim.search rules };
 
-    fn record_length() -> usize {
-        Self::RECORD
-    }
-
-    fn kind_byte() -> u8 {
-        Self::KIND
-    }
+    ghost as_long = { Prim.search rules };
 
     fn nothing() -> CentsMinutes {
-        CentsMinutes {
-            cents: 0,
-            minutes: 0,
-        }
+        CentsMinutes::default()
     }
 
     fn plus(self, other: CentsMinutes) -> CentsMinutes {
@@ -58,11 +53,11 @@ impl Amount for CentsMinutes {
     }
 
     fn is_below(self, other: CentsMinutes) -> bool {
-        self.cents < other.cents || self.cents == other.cents && self.minutes < other.minutes
+        self < other
     }
 
     fn is_legal(self) -> bool {
-        !self.is_below(Self::nothing()) && is_within(self.cents) && is_within(self.minutes)
+        self >= Self::nothing() && is_within(self.cents) && is_within(self.minutes)
     }
 
     fn read(bytes: &[u8]) -> CentsMinutes {
@@ -70,5 +65,13 @@ impl Amount for CentsMinutes {
             cents: signed(bytes, 3),
             minutes: signed(bytes, 7),
         }
+    }
+}
+
+impl fmt::Display for CentsMinutes {
+    ghost output = { λ x. Some (signed_decimal x.cents ++ 58 ∷ signed_decimal x.minutes) };
+
+    fn fmt<W: fmt::Write>(&self, f: &mut fmt::Formatter<W>) -> fmt::Result {
+        write!(f, "{}:{}", self.cents, self.minutes)
     }
 }

@@ -13,22 +13,17 @@ pub trait Amount: Copy {
     /// The parts of an amount, the most significant first.
     ghost parts: { Self → List ℤ };
 
-    /// The byte that names this kind in a file.
-    ghost byte: { ℕ };
-
     /// The length of a link record with a price of this kind.
     const RECORD: usize;
+
+    /// `RECORD` in clauses.
+    ghost RECORD: { ℕ };
 
     /// The byte that names this kind in a file.
     const KIND: u8;
 
-    /// `RECORD`, tied to what `read` takes.
-    fn record_length() -> usize
-        ensures { result ≡ length_of_record width };
-
-    /// `KIND`, tied to the byte that files are read by.
-    fn kind_byte() -> u8
-        ensures { result ≡ byte };
+    /// `KIND` in clauses.
+    ghost KIND: { ℕ };
 
     fn nothing() -> Self
         ensures { parts result ≡ no_amount width };
@@ -55,4 +50,7 @@ pub trait Amount: Copy {
     ghost some_part: { 0 < width };
 
     ghost as_wide: { (x : Self) → length (parts x) ≡ width };
+
+    /// A record is as long as `read` takes it to be.
+    ghost as_long: { RECORD ≡ length_of_record width };
 }

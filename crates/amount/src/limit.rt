@@ -6,5 +6,5 @@ ghost use Rattle.amount.specs.Parts.{within};
 pub fn is_within(part: i64) -> bool
     ensures { result ≡ within 100000 (part ∷ []) }
 {
-    -100_000 <= part && part <= 100_000
+    (-100_000..=100_000).contains(&part)
 }

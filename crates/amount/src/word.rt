@@ -1,16 +1,13 @@
 //! The numbers of a file: lowest byte first.
-ghost use Rattle.std.specs.Prelude.{◌≡◌, ◌+◌, ◌≤◌, length, drop};
+ghost use Rattle.std.specs.Prelude.{◌≡◌, ◌+◌, ◌≤◌, length, take, drop};
 ghost use Rattle.amount.specs.Records.{word as word_of, signed as signed_of};
 
-/// The first four bytes, as a number.
-fn first_word(bytes: &[u8]) -> u32
-    requires { 4 ≤ length bytes.now }
-    ensures { result ≡ word_of bytes.now }
+/// The four bytes from `at` on.
+fn four(bytes: &[u8], at: usize) -> [u8; 4]
+    requires { at + 4 ≤ length bytes.now }
+    ensures { result ≡ take 4 (drop at bytes.now) }
 {
-    u32::from(bytes[0])
-        + 256 * u32::from(bytes[1])
-        + 65_536 * u32::from(bytes[2])
-        + 16_777_216 * u32::from(bytes[3])
+    <[u8; 4]>::try_from(&bytes[at..at + 4]).unwrap()
 }
 
 /// The four bytes from `at` on, as a number.
@@ -18,7 +15,7 @@ pub fn word(bytes: &[u8], at: usize) -> u32
     requires { at + 4 ≤ length bytes.now }
     ensures { result ≡ word_of (drop at bytes.now) }
 {
-    first_word(&bytes[at..at + 4])
+    u32::from_le_bytes(four(bytes, at))
 }
 
 /// The four bytes from `at` on, as a signed number.
@@ -26,10 +23,5 @@ pub fn signed(bytes: &[u8], at: usize) -> i64
     requires { at + 4 ≤ length bytes.now }
     ensures { result ≡ signed_of (word_of (drop at bytes.now)) }
 {
-    let n = i64::from(word(bytes, at));
-    if n < 2_147_483_648 {
-        n
-    } else {
-        n - 4_294_967_296
-    }
+    i64::from(i32::from_le_bytes(four(bytes, at)))
 }

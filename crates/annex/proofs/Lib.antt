@@ -1,3 +1,2 @@
-pub mod Puts
-pub mod Listed
-pub mod Carried
+pub mod Appending
+pub mod Lengths

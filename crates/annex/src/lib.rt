@@ -2,7 +2,5 @@
 #![tactic(auto)]
 
 pub mod laws;
-pub mod number;
-pub mod place;
 pub mod refusal_line;
-pub mod spaced;
+pub mod text;

@@ -2,6 +2,7 @@
 use Rattle.std.specs.Prelude.{◌≡◌, ℕ, Bool, true, not, List, [], ◌∷◌, ◌++◌, length, replicate, is_some, None, Option, ◌==◌}
 use Rattle.std.specs.Option.{unwrap_or}
 use Rattle.refusal.specs.Checks.{Check, ◌refuses_with◌}
+use Rattle.refusal.specs.declared.Refusal.{Refusal}
 use Rattle.refusal.specs.declared.Refusal.TheVariants.{MemorySize, MemberNotEntered, FamilyStations}
 use Rattle.sheet.specs.Calls.{column_checks, priced}
 use Rattle.sheet.specs.Held.{Held}
@@ -11,15 +12,17 @@ use Rattle.stages.specs.Asked.{Asked}
 abbrev pub left_out : (List ℕ → Option ℕ) → Option ℕ
 left_out smallest = smallest (replicate 200 1)
 
--- the memory has the right size, and the family, made for so many stations, is one for the sheet and has no
--- member that no link enters
-abbrev pub family_checks : Held → (List ℕ → Option ℕ) → ℕ → Bool → List Check
-family_checks h smallest size memory_fits =
-    (not memory_fits refuses_with MemorySize) ∷
+-- the family, made for so many stations, is one for the sheet and has no member that no link enters
+abbrev pub suited_checks : Held → (List ℕ → Option ℕ) → ℕ → List (Check Refusal)
+suited_checks h smallest size =
     (not (size == h.stations) refuses_with FamilyStations) ∷
     (is_some (left_out smallest) refuses_with MemberNotEntered (unwrap_or (left_out smallest) 0)) ∷ []
 
-abbrev pub cover_checks : Held → Asked → ℕ → Bool → List Check
+-- and before it the memory has the right size
+abbrev pub family_checks : Held → (List ℕ → Option ℕ) → ℕ → Bool → List (Check Refusal)
+family_checks h smallest size memory_fits = (not memory_fits refuses_with MemorySize) ∷ suited_checks h smallest size
+
+abbrev pub cover_checks : Held → Asked → ℕ → Bool → List (Check Refusal)
 cover_checks h a size memory_fits = column_checks h a.column ++ family_checks h a.smallest size memory_fits
 
 -- the stages can begin: legal prices, a family for the sheet's stations, and every member entered by some link

@@ -5,5 +5,7 @@ pub mod call;
 pub mod checks;
 pub mod in_stages;
 pub mod keeping;
+pub mod memory;
 pub mod packing;
+pub mod question;
 pub mod taking;

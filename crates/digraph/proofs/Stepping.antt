@@ -84,22 +84,24 @@ pub next_step_sized : (o : Option Link) (masks : List ℕ) → length masks ≡ 
 next_step_sized None masks sized = sized
 next_step_sized (Some l) masks sized = length-set masks l.tail (bit_or (get_or masks l.tail 0) (2 ^ l.head)) ∙ sized
 
+-- a mask with one station below 40 more, among masks of stations below 40
+pub bit_more_low : (masks : List ℕ) (t h bit u : ℕ) → bit ≡ 2 ^ h → h < 40 → ((u : ℕ) → get_or masks u 0 < 2 ^ 40) → get_or (set masks t (bit_or (get_or masks t 0) bit)) u 0 < 2 ^ 40
+bit_more_low masks t h bit u is below low = ⊎_elim same other (cases_eq u t)
+  where
+    other : (u ≡ t → ⊥) → get_or (set masks t (bit_or (get_or masks t 0) bit)) u 0 < 2 ^ 40
+    other ne = rw (get_or-set_other masks t u (bit_or (get_or masks t 0) bit) 0 ne) (low u)
+
+    new : bit_or (get_or masks t 0) bit < 2 ^ 40
+    new = rw is (or_lt 40 (get_or masks t 0) (2 ^ h) (low t) (pow_below h 40 below))
+
+    same : u ≡ t → get_or (set masks t (bit_or (get_or masks t 0) bit)) u 0 < 2 ^ 40
+    same q =
+        ⊎_elim (λ h. rw (q, get_or-set_same masks t (bit_or (get_or masks t 0) bit) 0 h) new)
+        (λ h. rw (set_past masks t (bit_or (get_or masks t 0) bit) h) (low u)) (cases_lt t (length masks))
+
 next_step_low : (o : Option Link) (masks : List ℕ) → Low o → ((u : ℕ) → get_or masks u 0 < 2 ^ 40) → (u : ℕ) → get_or (with_step masks o) u 0 < 2 ^ 40
 next_step_low None masks ends low u = low u
-next_step_low (Some l) masks ends low u = ⊎_elim same other (cases_eq u l.tail)
-  where
-    other : (u ≡ l.tail → ⊥) → get_or (set masks l.tail (bit_or (get_or masks l.tail 0) (2 ^ l.head))) u 0 < 2 ^ 40
-    other ne = subst (λ (x : ℕ). x < 2 ^ 40) (sym (get_or-set_other masks l.tail u (bit_or (get_or masks l.tail 0) (2 ^ l.head)) 0 ne)) (low u)
-
-    new : bit_or (get_or masks l.tail 0) (2 ^ l.head) < 2 ^ 40
-    new = or_lt 40 (get_or masks l.tail 0) (2 ^ l.head) (low l.tail) (pow_below l.head 40 (ends l refl).1)
-
-    same : u ≡ l.tail → get_or (set masks l.tail (bit_or (get_or masks l.tail 0) (2 ^ l.head))) u 0 < 2 ^ 40
-    same q =
-        ⊎_elim
-        (λ h. subst (λ (x : ℕ). x < 2 ^ 40) (sym (ap (λ (x : ℕ). get_or (set masks l.tail (bit_or (get_or masks l.tail 0) (2 ^ l.head))) x 0) q ∙ get_or-set_same masks l.tail (bit_or (get_or masks l.tail 0) (2 ^ l.head)) 0 h)) new)
-        (λ h. subst (λ (x : List ℕ). get_or x u 0 < 2 ^ 40) (sym (set_past masks l.tail (bit_or (get_or masks l.tail 0) (2 ^ l.head)) h)) (low u))
-        (cases_lt l.tail (length masks))
+next_step_low (Some l) masks ends low u = bit_more_low masks l.tail l.head (2 ^ l.head) u refl (ends l refl).1 low
 
 -- of a longer list: its first link, or the rest
 low_rest : (o : Option Link) (os : List (Option Link)) → AllLow (o ∷ os) → AllLow os
@@ -144,10 +146,10 @@ none_in_zeros zero u v h = omega (arith, digit_of_0 v)
 none_in_zeros (suc m) zero v h = omega (arith, digit_of_0 v)
 none_in_zeros (suc m) (suc u) v h = none_in_zeros m u v h
 
-zeros_low : (m u : ℕ) → get_or (replicate m 0) u 0 < 2 ^ 40
-zeros_low zero u = pow_pos 40
-zeros_low (suc m) zero = pow_pos 40
-zeros_low (suc m) (suc u) = zeros_low m u
+pub same_low : (m x u : ℕ) → x < 2 ^ 40 → get_or (replicate m x) u 0 < 2 ^ 40
+same_low zero x u low = pow_pos 40
+same_low (suc m) x zero low = low
+same_low (suc m) x (suc u) low = same_low m x u low
 
 -- from no steps at all, the masks have just the steps of the list
 module _ (os : List (Option Link)) (low : AllLow os) where
@@ -158,7 +160,7 @@ module _ (os : List (Option Link)) (low : AllLow os) where
   somewhere_next u v a = steps_in os (replicate 40 0) u v low refl (inr a)
 
   pub steps_are_low : (u : ℕ) → get_or (steps_from (replicate 40 0) os) u 0 < 2 ^ 40
-  steps_are_low u = steps_low os (replicate 40 0) low (zeros_low 40) u
+  steps_are_low u = steps_low os (replicate 40 0) low (λ w. same_low 40 0 w (pow_pos 40)) u
 
 -- the first link taken off those to come
 pub steps_one_on : (os : List (Option Link)) (masks : List ℕ) (i : ℕ) (o : Option Link) → i < length os → o ≡ get_or os i None → steps_from (with_step masks o) (drop (i + 1) os) ≡ steps_from masks (drop i os)

@@ -11,8 +11,5 @@ pub fn enters(link: Option<Link>, set: u64) -> bool
     requires { Low link }
     ensures { result ≡ enters_set link set }
 {
-    match link {
-        None => false,
-        Some(Link { tail, head }) => holds(set, head) && !holds(set, tail),
-    }
+    link.is_some_and(|Link { tail, head }| holds(set, head) && !holds(set, tail))
 }

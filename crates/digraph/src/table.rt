@@ -4,10 +4,11 @@ ghost use Rattle.std.specs.Prelude.{◌≡◌, ◌<◌, length, replicate, None,
 use crate::link::Link;
 
 /// How many numbers there are for links: 0 to 199.
+// That a number is below it is required: a type for such a number would be made anew at each step of a loop.
 pub const LINKS: usize = 200;
 
 /// The link of each number, where there is one.
-#[derive(Clone, Copy)]
+#[derive(Debug, Clone, Copy, PartialEq, Eq)]
 pub struct LinkTable {
     pub slots: [Option<Link>; LINKS],
     ghost sized: { length slots ≡ 200 },

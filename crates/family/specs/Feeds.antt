@@ -1,6 +1,6 @@
 -- The laws of the feed family. Smallest: the set around some station of any other unentered member lies
 -- inside it and has no fewer stations. Largest: what the base does not reach holds every unentered member.
-use Rattle.std.specs.Prelude.{◌≡◌, ℕ, zero, suc, ◌+◌, ◌-◌, ◌^◌, ◌<◌, ◌≤◌, Bool, true, false, cond, List, Some, None, Option, ◌==◌, ◌≢◌, bit_and, bit_or, count_ones, nat_lt}
+use Rattle.std.specs.Prelude.{◌≡◌, ℕ, zero, suc, ◌+◌, ◌^◌, ◌<◌, ◌≤◌, Bool, true, false, cond, List, Some, None, Option, ◌==◌, ◌≢◌, bit_and, bit_or, count_ones, nat_lt}
 use Rattle.std.specs.Int.Bits.{and_lt}
 use Rattle.std.proofs.Common.{⊎_elim, sym, refl, ◌∙◌, ap, subst, arith}
 use Rattle.std.proofs.lemmas.Nat.{pow_below, or_lt}
@@ -11,7 +11,7 @@ use Rattle.digraph.specs.Entering.{Entered}
 use Rattle.digraph.specs.Search.{reach_set}
 use Rattle.sheet.specs.Held.{Held}
 use Rattle.sheet.specs.Sound.{Sound}
-use Rattle.family.specs.Choices.{FeedMember, for_size, others, fewer, better, fewest_from, feed_smallest, feed_largest}
+use Rattle.family.specs.Choices.{FeedMember, for_size, others, fewer, fewest_from, feed_smallest, feed_largest}
 use Rattle.family.specs.Laws.{Unentered, Smallest, Largest}
 use Rattle.family.specs.Reach.{marked_steps, reaching, reached_from}
 use Rattle.family.specs.declared.reach.Direction.TheVariants.{Back}
@@ -141,7 +141,7 @@ module _ (n : ℕ) (h : Held) (marks : List ℕ) (sound : Sound h) (right : h.st
   -- around a station of an unentered set lies a set inside it
   around_inside : (x v : ℕ) → x < 2 ^ n → In x v → Unentered h.links marks x → Part (reaching h.links marks v) x
   around_inside x v small held out =
-      reaching_least h.stations h.links sound.proper sound.few sound.sized marks v (station_of v (In-below n x v small held)) x held out
+      reaching_least h sound marks v (station_of v (In-below n x v small held)) x held out
 
   around_lacks_base : (x v : ℕ) → FeedMember n x → In x v → Unentered h.links marks x → has (reaching h.links marks v) 0 ≡ false
   around_lacks_base x v member held out =
@@ -162,11 +162,11 @@ module _ (n : ℕ) (h : Held) (marks : List ℕ) (sound : Sound h) (right : h.st
           record {
             member =
                 record {
-                  inside = subst (λ m. m < 2 ^ n) (sym best.is) (subst (λ m. reaching h.links marks v < 2 ^ m) right (reaching_inside h.stations h.links sound.proper sound.few sound.sized marks v low));
-                  some = holding_is_some set v (subst (λ m. In m v) (sym best.is) (reaching_has_it h.stations h.links sound.proper sound.few sound.sized marks v low));
+                  inside = subst (λ m. m < 2 ^ n) (sym best.is) (subst (λ m. reaching h.links marks v < 2 ^ m) right (reaching_inside h sound marks v low));
+                  some = holding_is_some set v (subst (λ m. In m v) (sym best.is) (reaching_has_it h sound marks v low));
                   without_base = best.without_base;
                 };
-            unentered = subst (Unentered h.links marks) (sym best.is) (reaching_unentered h.stations h.links sound.proper sound.few sound.sized marks v low);
+            unentered = subst (Unentered h.links marks) (sym best.is) (reaching_unentered h sound marks v low);
             no_part = λ other member out part.
                 let (u, held) = some_station other member in
                 let inside = around_inside other u member.inside held out in
@@ -191,17 +191,17 @@ module _ (n : ℕ) (h : Held) (marks : List ℕ) (sound : Sound h) (right : h.st
   rest_is = ap (λ m. others m (reached_from h.links marks 0)) right
 
   reached_small : reached_from h.links marks 0 < 2 ^ n
-  reached_small = subst (λ m. reached_from h.links marks 0 < 2 ^ m) right (reached_inside h.stations h.links sound.proper sound.few sound.sized marks 0 base_low)
+  reached_small = subst (λ m. reached_from h.links marks 0 < 2 ^ m) right (reached_inside h sound marks 0 base_low)
 
   holds_all : (other : ℕ) → FeedMember n other → Unentered h.links marks other → Part other (others n (reached_from h.links marks 0))
   holds_all other member out =
       subst (Part other) rest_is
-      (not_reached_greatest h.stations h.links sound.proper sound.few sound.sized marks 0 base_low other (subst (λ m. other < 2 ^ m) (sym right) member.inside) member.without_base out)
+      (not_reached_greatest h sound marks 0 base_low other (subst (λ m. other < 2 ^ m) (sym right) member.inside) member.without_base out)
 
   lacks_base : has (others n (reached_from h.links marks 0)) 0 ≡ false
   lacks_base =
       ⊎_elim (λ base. absurd (both_ways (has (reached_from h.links marks 0) 0) (others_apart n (reached_from h.links marks 0) reached_small 0 (has→In (others n (reached_from h.links marks 0)) 0 base))
-      (In→has (reached_from h.links marks 0) 0 (reached_has_it h.stations h.links sound.proper sound.few sound.sized marks 0 base_low))))
+      (In→has (reached_from h.links marks 0) 0 (reached_has_it h sound marks 0 base_low))))
       (λ lacks. lacks) (cases_Bool (has (others n (reached_from h.links marks 0)) 0))
 
   -- the answer, by whether anything is left
@@ -218,7 +218,7 @@ module _ (n : ℕ) (h : Held) (marks : List ℕ) (sound : Sound h) (right : h.st
       subst (Largest (FeedMember n) h.links marks) found.0
       (record {
         member = record { inside = others_inside n (reached_from h.links marks 0) reached_small; some = λ z. found.1 (sym found.0 ∙ z); without_base = lacks_base };
-        unentered = subst (Unentered h.links marks) rest_is (not_reached_unentered h.stations h.links sound.proper sound.few sound.sized marks 0 base_low);
+        unentered = subst (Unentered h.links marks) rest_is (not_reached_unentered h sound marks 0 base_low);
         no_whole = λ other member out part. Part-antisym other (others n (reached_from h.links marks 0)) (holds_all other member out) part;
       })
 
@@ -232,9 +232,3 @@ module _ (n : ℕ) (h : Held) (marks : List ℕ) (sound : Sound h) (right : h.st
       let empty = none_left (others n (reached_from h.links marks 0) == 0) refl (sym (for_right_size n h answer right) ∙ e) in
       entered_if_not_unentered h.links marks set
       (λ out. let (v, held) = some_station set member in omega (arith, digit_of_0 v, subst (λ m. In m v) empty (holds_all set member out v held)))
-
--- the loop over the stations, one station on
-pub fewest_one_on : (steps : List ℕ) (best after : Option ℕ) (v n : ℕ) → v < n → after ≡ better best (reach_set steps v) → fewest_from steps after (v + 1) (n - (v + 1)) ≡ fewest_from steps best v (n - v)
-fewest_one_on steps best after v n h e =
-    let one_less : n - v ≡ suc (n - (v + 1)) = omega arith in
-    ap (λ b. fewest_from steps b (v + 1) (n - (v + 1))) e ∙ sym (ap (fewest_from steps best v) one_less)

@@ -7,7 +7,7 @@ use digraph::table::LINKS;
 use sheet::Sheet;
 
 /// A family of one kind or of another.
-#[derive(Clone, Copy)]
+#[derive(Clone, Copy, Debug, PartialEq, Eq)]
 pub enum Either<F, G> {
     First(F),
     Second(G),

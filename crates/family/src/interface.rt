@@ -31,6 +31,9 @@ pub trait Family {
     fn stations(&self) -> u8
         ensures { result ≡ size self.now };
 
+    // Each family tests the sheet's size itself: to test it here, once, would take a second pair of
+    // questions for every family to answer.
+
     /// A member that no marked link enters and of which no proper part is such a member; none if every
     /// member is entered.
     fn smallest(&self, sheet: &Sheet, marks: &[u8; LINKS]) -> Option<u64>

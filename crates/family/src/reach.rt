@@ -8,28 +8,29 @@ ghost use Rattle.family.specs.Laws.{Unentered};
 ghost use Rattle.family.specs.Reach.{MarkedStep, turned, marked_link, marked_steps, reaching, reached_from};
 
 use digraph::link::Link;
-use digraph::search::{STATIONS, reached};
-use digraph::steps::add_step;
+use digraph::steps::Steps;
 use digraph::table::LINKS;
 use sheet::Sheet;
 
 /// Which way links are gone along: from tail to head, or from head to tail.
-#[derive(Clone, Copy)]
+#[derive(Clone, Copy, Debug, PartialEq, Eq)]
 pub enum Direction {
     Forth,
     Back,
 }
 
-/// A link as it is gone along.
-fn turn(way: Direction, link: Link) -> Link
-    ensures { result ≡ turned way link }
-{
-    match way {
-        Direction::Forth => link,
-        Direction::Back => Link {
-            tail: link.head,
-            head: link.tail,
-        },
+impl Direction {
+    /// A link as it is gone along.
+    pub fn turn(self, link: Link) -> Link
+        ensures { result ≡ turned self link }
+    {
+        match self {
+            Direction::Forth => link,
+            Direction::Back => Link {
+                tail: link.head,
+                head: link.tail,
+            },
+        }
     }
 }
 
@@ -38,24 +39,21 @@ fn marked(sheet: &Sheet, marks: &[u8; LINKS], way: Direction, k: u16) -> Option<
     requires { k < 200 }
     ensures { result ≡ marked_link way (held sheet.now).links marks.now k }
 {
-    if marks[k as usize] == 0 {
-        return None;
-    }
-    match sheet.link(k) {
-        None => None,
-        Some(link) => Some(turn(way, link)),
-    }
+    sheet
+        .link(k)
+        .filter(|_| marks[k as usize] != 0)
+        .map(|link| way.turn(link))
 }
 
 /// For each station the stations one step along a marked link from it.
-pub fn steps(sheet: &Sheet, marks: &[u8; LINKS], way: Direction) -> [u64; STATIONS]
-    ensures { result ≡ marked_steps way (held sheet.now).links marks.now }
+pub fn steps(sheet: &Sheet, marks: &[u8; LINKS], way: Direction) -> Steps
+    ensures { result.next ≡ marked_steps way (held sheet.now).links marks.now }
 {
-    let mut next = [0; STATIONS];
+    let mut steps = Steps::none();
     for k in 0..LINKS as u16 {
-        add_step(&mut next, marked(sheet, marks, way, k));
+        steps.add(marked(sheet, marks, way, k));
     }
-    next
+    steps
 }
 
 /// The stations from which `station` is reached along marked links, itself included: the least set with
@@ -69,8 +67,11 @@ pub fn stations_reaching(sheet: &Sheet, marks: &[u8; LINKS], station: u8) -> u64
     ensures least { (z : ℕ) → In z station → Unentered (held sheet.now).links marks.now z → Part result z }
     ensures paths { (u : ℕ) → Decides (has result u) (Path (MarkedStep (held sheet.now).links marks.now) u station) }
 {
-    reached(&steps(sheet, marks, Direction::Back), station)
+    steps(sheet, marks, Direction::Back).reached(station)
 }
+
+// Not one function with `stations_reaching`, for a direction: what each promises differs, and only the
+// set that is found going back is the least one that no marked link enters.
 
 /// The stations reached from `station` along marked links, itself included.
 pub fn stations_reached(sheet: &Sheet, marks: &[u8; LINKS], station: u8) -> u64
@@ -80,10 +81,11 @@ pub fn stations_reached(sheet: &Sheet, marks: &[u8; LINKS], station: u8) -> u64
     ensures has_it { In result station }
     ensures paths { (v : ℕ) → Decides (has result v) (Path (MarkedStep (held sheet.now).links marks.now) station v) }
 {
-    reached(&steps(sheet, marks, Direction::Forth), station)
+    steps(sheet, marks, Direction::Forth).reached(station)
 }
 
 /// The stations that are not in `set`.
+// Of any number of them up to 40: a `StationCount` would refuse 0 and 1.
 pub fn others(stations: u8, set: u64) -> u64
     requires few { stations ≤ 40 }
     requires inside { set < 2 ^ stations }

@@ -12,19 +12,18 @@ use crate::reach::{others, stations_reached, stations_reaching};
 use digraph::table::LINKS;
 use refusal::Refusal;
 use sheet::Sheet;
+use stations::count::StationCount;
 use stations::holds;
 
 /// The sets with the route's end and without its start. Links that enter all of them lead from the
 /// start to the end.
-#[derive(Clone, Copy)]
+#[derive(Clone, Copy, Debug, PartialEq, Eq)]
 pub struct Route {
-    stations: u8,
+    stations: StationCount,
     start: u8,
     end: u8,
-    ghost some: { 2 ≤ stations },
-    ghost few: { stations ≤ 40 },
-    ghost starts: { start < stations },
-    ghost ends: { end < stations },
+    ghost starts: { start < stations.count },
+    ghost ends: { end < stations.count },
     ghost apart: { start ≢ end },
 }
 
@@ -32,12 +31,10 @@ impl Route {
     /// The family of a route from `start` to `end`, for a number of stations. The end alone is a member.
     pub fn new(stations: u8, start: u8, end: u8) -> Result<Route, Refusal>
         ensures refusal { result_err result ≡ first (route_checks stations start end) }
-        ensures size { IfOk result (λ f. (f.stations ≡ stations) × (f.start ≡ start) × (f.end ≡ end)) }
-        ensures members { IfOk result (λ f. RouteMember f.stations f.start f.end (2 ^ f.end)) }
+        ensures size { IfOk result (λ f. (f.stations.count ≡ stations) × (f.start ≡ start) × (f.end ≡ end)) }
+        ensures members { IfOk result (λ f. RouteMember f.stations.count f.start f.end (2 ^ f.end)) }
     {
-        if stations < 2 || 40 < stations {
-            return Err(Refusal::StationCount);
-        }
+        let count = StationCount::try_from(stations)?;
         if start >= stations || end >= stations {
             return Err(Refusal::NoSuchStation);
         }
@@ -45,7 +42,7 @@ impl Route {
             return Err(Refusal::EqualRouteEnds);
         }
         Ok(Route {
-            stations,
+            stations: count,
             start,
             end,
         })
@@ -53,59 +50,51 @@ impl Route {
 }
 
 impl Family for Route {
-    ghost size = { λ f. f.stations };
+    ghost size = { λ f. f.stations.count };
 
-    ghost member = { λ f. RouteMember f.stations f.start f.end };
+    ghost member = { λ f. RouteMember f.stations.count f.start f.end };
 
-    ghost small = { λ f. route_smallest f.stations f.start f.end };
+    ghost small = { λ f. route_smallest f.stations.count f.start f.end };
 
-    ghost large = { λ f. route_largest f.stations f.start f.end };
+    ghost large = { λ f. route_largest f.stations.count f.start f.end };
 
     ghost inside = { λ f set member. member.inside };
 
-    ghost some = { λ f set member. route_member_is_some f.stations f.start f.end set member };
+    ghost some = { λ f set member. route_member_is_some f.stations.count f.start f.end set member };
 
-    ghost common_part = { λ f x y s p q i j. route_common f.stations f.start f.end x y s p q i j };
+    ghost common_part = { λ f x y s p q i j. route_common f.stations.count f.start f.end x y s p q i j };
 
-    ghost union = { λ f x y s p q i j. route_union f.stations f.start f.end x y s p q i j };
+    ghost union = { λ f x y s p q i j. route_union f.stations.count f.start f.end x y s p q i j };
 
-    ghost smallest_found = { λ f h marks set sound right e. route_smallest_found f.stations f.start f.end f.starts f.ends h marks sound right set e };
+    ghost smallest_found = { λ f h marks set sound right e. route_smallest_found f.stations.count f.start f.end f.starts f.ends h marks sound right set e };
 
-    ghost smallest_none = { λ f h marks set sound right e member. route_smallest_none f.stations f.start f.end f.starts f.ends h marks sound right set e member };
+    ghost smallest_none = { λ f h marks set sound right e member. route_smallest_none f.stations.count f.start f.end f.starts f.ends h marks sound right set e member };
 
-    ghost smallest_elsewhere = { λ f h marks other. none_for_other_size f.stations h _ other };
+    ghost smallest_elsewhere = { λ f h marks other. none_for_other_size f.stations.count h _ other };
 
-    ghost largest_found = { λ f h marks set sound right e. route_largest_found f.stations f.start f.end f.starts f.ends h marks sound right set e };
+    ghost largest_found = { λ f h marks set sound right e. route_largest_found f.stations.count f.start f.end f.starts f.ends h marks sound right set e };
 
-    ghost largest_none = { λ f h marks set sound right e member. route_largest_none f.stations f.start f.end f.starts f.ends h marks sound right set e member };
+    ghost largest_none = { λ f h marks set sound right e member. route_largest_none f.stations.count f.start f.end f.starts f.ends h marks sound right set e member };
 
-    ghost largest_elsewhere = { λ f h marks other. none_for_other_size f.stations h _ other };
+    ghost largest_elsewhere = { λ f h marks other. none_for_other_size f.stations.count h _ other };
 
     fn stations(&self) -> u8 {
-        self.stations
+        self.stations.get()
     }
 
     fn smallest(&self, sheet: &Sheet, marks: &[u8; LINKS]) -> Option<u64> {
-        if sheet.stations() != self.stations {
+        if sheet.stations() != self.stations() {
             return None;
         }
         let set = stations_reaching(sheet, marks, self.end);
-        if holds(set, self.start) {
-            None
-        } else {
-            Some(set)
-        }
+        (!holds(set, self.start)).then_some(set)
     }
 
     fn largest(&self, sheet: &Sheet, marks: &[u8; LINKS]) -> Option<u64> {
-        if sheet.stations() != self.stations {
+        if sheet.stations() != self.stations() {
             return None;
         }
-        let rest = others(self.stations, stations_reached(sheet, marks, self.start));
-        if holds(rest, self.end) {
-            Some(rest)
-        } else {
-            None
-        }
+        let rest = others(self.stations(), stations_reached(sheet, marks, self.start));
+        holds(rest, self.end).then_some(rest)
     }
 }

@@ -8,7 +8,7 @@ use std::test::Fail;
 
 #[test]
 fn a_feed_answers_as_a_feed(rt: HostRuntime) -> Result<(), Fail> {
-    let either: Either<Feed, Route> = Either::First(feed(5)?);
+    let either: Either<Feed, Route> = Either::First(Feed::new(5)?);
     assert_eq!(rt; either.stations(), 5);
     assert_eq!(rt;
         answers(&either, &net()?, &FULL),
@@ -19,7 +19,7 @@ fn a_feed_answers_as_a_feed(rt: HostRuntime) -> Result<(), Fail> {
 
 #[test]
 fn a_route_answers_as_a_route(rt: HostRuntime) -> Result<(), Fail> {
-    let either: Either<Feed, Route> = Either::Second(route(5, 0, 2)?);
+    let either: Either<Feed, Route> = Either::Second(Route::new(5, 0, 2)?);
     assert_eq!(rt; either.stations(), 5);
     assert_eq!(rt; answers(&either, &net()?, &FULL), (None, None));
     assert_eq!(rt;
@@ -32,8 +32,8 @@ fn a_route_answers_as_a_route(rt: HostRuntime) -> Result<(), Fail> {
 #[test]
 fn one_list_has_families_of_both_kinds(rt: HostRuntime) -> Result<(), Fail> {
     let families: [Either<Feed, Route>; 2] = [
-        Either::First(feed(5)?),
-        Either::Second(route(5, 4, 3)?),
+        Either::First(Feed::new(5)?),
+        Either::Second(Route::new(5, 4, 3)?),
     ];
     let net = net()?;
     assert_eq!(rt;
@@ -49,7 +49,7 @@ fn one_list_has_families_of_both_kinds(rt: HostRuntime) -> Result<(), Fail> {
 
 #[test]
 fn an_either_may_hold_an_either(rt: HostRuntime) -> Result<(), Fail> {
-    let inner: Either<Feed, Route> = Either::Second(route(6, 0, 1)?);
+    let inner: Either<Feed, Route> = Either::Second(Route::new(6, 0, 1)?);
     let either: Either<Feed, Either<Feed, Route>> = Either::Second(inner);
     assert_eq!(rt; either.stations(), 6);
     assert_eq!(rt; answers(&either, &net()?, &BARE), (None, None));

@@ -1,12 +1,13 @@
 //! What a feed answers.
 use crate::tools::*;
+use family::feed::Feed;
 use family::interface::Family;
 use std::test::Fail;
 
 #[test]
 fn without_marks_every_set_is_left(rt: HostRuntime) -> Result<(), Fail> {
     assert_eq!(rt;
-        answers(&feed(5)?, &net()?, &BARE),
+        answers(&Feed::new(5)?, &net()?, &BARE),
         (Some(0b10), Some(0b11110))
     );
     Ok(())
@@ -15,7 +16,7 @@ fn without_marks_every_set_is_left(rt: HostRuntime) -> Result<(), Fail> {
 #[test]
 fn with_all_links_marked_the_unreached_are_left(rt: HostRuntime) -> Result<(), Fail> {
     assert_eq!(rt;
-        answers(&feed(5)?, &net()?, &FULL),
+        answers(&Feed::new(5)?, &net()?, &FULL),
         (Some(0b1000), Some(0b11000))
     );
     Ok(())
@@ -23,7 +24,7 @@ fn with_all_links_marked_the_unreached_are_left(rt: HostRuntime) -> Result<(), F
 
 #[test]
 fn a_cycle_counts_both_its_stations(rt: HostRuntime) -> Result<(), Fail> {
-    let (feed, net) = (feed(5)?, net()?);
+    let (feed, net) = (Feed::new(5)?, net()?);
     assert_eq!(rt;
         answers(&feed, &net, &marks_at(&[2, 3])),
         (Some(0b1000), Some(0b11110))
@@ -42,7 +43,7 @@ fn a_cycle_counts_both_its_stations(rt: HostRuntime) -> Result<(), Fail> {
 #[test]
 fn where_every_station_is_fed_there_is_none(rt: HostRuntime) -> Result<(), Fail> {
     let line = sheet_of(3, &[(0, 1), (1, 2)])?;
-    let feed = feed(3)?;
+    let feed = Feed::new(3)?;
     assert_eq!(rt; answers(&feed, &line, &FULL), (None, None));
     assert_eq!(rt;
         answers(&feed, &line, &marks_at(&[0])),
@@ -58,7 +59,7 @@ fn where_every_station_is_fed_there_is_none(rt: HostRuntime) -> Result<(), Fail>
 #[test]
 fn either_of_two_parallel_links_feeds(rt: HostRuntime) -> Result<(), Fail> {
     let pair = sheet_of(2, &[(0, 1), (0, 1), (1, 0)])?;
-    let feed = feed(2)?;
+    let feed = Feed::new(2)?;
     assert_eq!(rt; answers(&feed, &pair, &marks_at(&[0])), (None, None));
     assert_eq!(rt; answers(&feed, &pair, &marks_at(&[1])), (None, None));
     assert_eq!(rt;
@@ -71,7 +72,7 @@ fn either_of_two_parallel_links_feeds(rt: HostRuntime) -> Result<(), Fail> {
 #[test]
 fn among_equal_counts_the_lowest_station_wins(rt: HostRuntime) -> Result<(), Fail> {
     let pairs = sheet_of(5, &[(1, 4), (4, 1), (2, 3), (3, 2)])?;
-    let feed = feed(5)?;
+    let feed = Feed::new(5)?;
     assert_eq!(rt;
         answers(&feed, &pairs, &FULL),
         (Some(0b10010), Some(0b11110))
@@ -87,7 +88,7 @@ fn among_equal_counts_the_lowest_station_wins(rt: HostRuntime) -> Result<(), Fai
 fn a_later_station_wins_by_fewer(rt: HostRuntime) -> Result<(), Fail> {
     let turned = sheet_of(4, &[(2, 1), (3, 2)])?;
     assert_eq!(rt;
-        answers(&feed(4)?, &turned, &FULL),
+        answers(&Feed::new(4)?, &turned, &FULL),
         (Some(0b1000), Some(0b1110))
     );
     Ok(())
@@ -96,7 +97,7 @@ fn a_later_station_wins_by_fewer(rt: HostRuntime) -> Result<(), Fail> {
 #[test]
 fn a_mark_without_a_link_marks_nothing(rt: HostRuntime) -> Result<(), Fail> {
     assert_eq!(rt;
-        answers(&feed(5)?, &net()?, &marks_at(&[6, 7, 199])),
+        answers(&Feed::new(5)?, &net()?, &marks_at(&[6, 7, 199])),
         (Some(0b10), Some(0b11110))
     );
     Ok(())
@@ -108,17 +109,17 @@ fn every_byte_but_0_marks(rt: HostRuntime) -> Result<(), Fail> {
     let mut marks = BARE;
     marks[0] = 255;
     assert_eq!(rt;
-        answers(&feed(3)?, &line, &marks),
+        answers(&Feed::new(3)?, &line, &marks),
         (Some(0b100), Some(0b100))
     );
     marks[1] = 2;
-    assert_eq!(rt; answers(&feed(3)?, &line, &marks), (None, None));
+    assert_eq!(rt; answers(&Feed::new(3)?, &line, &marks), (None, None));
     Ok(())
 }
 
 #[test]
 fn forty_stations_are_fed_along_a_chain(rt: HostRuntime) -> Result<(), Fail> {
-    let (feed, chain) = (feed(40)?, chain()?);
+    let (feed, chain) = (Feed::new(40)?, chain()?);
     assert_eq!(rt; answers(&feed, &chain, &FULL), (None, None));
     assert_eq!(rt;
         answers(&feed, &chain, &BARE),
@@ -141,15 +142,15 @@ fn forty_stations_are_fed_along_a_chain(rt: HostRuntime) -> Result<(), Fail> {
 #[test]
 fn a_sheet_of_another_size_has_no_answers(rt: HostRuntime) -> Result<(), Fail> {
     let net = net()?;
-    assert_eq!(rt; answers(&feed(4)?, &net, &BARE), (None, None));
-    assert_eq!(rt; answers(&feed(6)?, &net, &BARE), (None, None));
-    assert_eq!(rt; answers(&feed(40)?, &net, &BARE), (None, None));
+    assert_eq!(rt; answers(&Feed::new(4)?, &net, &BARE), (None, None));
+    assert_eq!(rt; answers(&Feed::new(6)?, &net, &BARE), (None, None));
+    assert_eq!(rt; answers(&Feed::new(40)?, &net, &BARE), (None, None));
     Ok(())
 }
 
 #[test]
 fn asking_again_gives_the_same(rt: HostRuntime) -> Result<(), Fail> {
-    let (feed, net) = (feed(5)?, net()?);
+    let (feed, net) = (Feed::new(5)?, net()?);
     let marks = marks_at(&[0, 2]);
     let first = answers(&feed, &net, &marks);
     assert_eq!(rt; answers(&feed, &net, &marks), first);

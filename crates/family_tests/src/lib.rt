@@ -13,3 +13,5 @@ mod reaching;
 mod routing;
 #[cfg(test)]
 mod tools;
+#[cfg(test)]
+mod tree;

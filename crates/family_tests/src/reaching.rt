@@ -6,10 +6,10 @@ use std::test::Fail;
 #[test]
 fn steps_go_forth_and_back(rt: HostRuntime) -> Result<(), Fail> {
     let net = net()?;
-    let forth = steps(&net, &FULL, Direction::Forth);
+    let forth = steps(&net, &FULL, Direction::Forth).next;
     assert!(rt; forth[0] == 0b10 && forth[1] == 0b100 && forth[2] == 0b11);
     assert!(rt; forth[3] == 0b10000 && forth[4] == 0 && forth[39] == 0);
-    let back = steps(&net, &FULL, Direction::Back);
+    let back = steps(&net, &FULL, Direction::Back).next;
     assert!(rt; back[0] == 0b100 && back[1] == 0b101 && back[2] == 0b10);
     assert!(rt; back[3] == 0 && back[4] == 0b1000 && back[39] == 0);
     Ok(())

@@ -5,7 +5,6 @@ use Rattle.std.proofs.lemmas.Bool.{both_ways, cases_Bool}
 use Rattle.std.proofs.lemmas.Bool.Decides.{nat_tests}
 use Rattle.amount.specs.Parts.{minus, nothing, within, Fitting}
 use Rattle.cover.specs.Memory.{Memory, memory_sized, room}
-use Rattle.cover.specs.Ready.{Ready}
 use Rattle.cover.specs.Filled.{Filled, Small}
 use Rattle.cover.proofs.PackingProgress.{same_parts}
 use Rattle.cuts.specs.Families.{listed}
@@ -26,7 +25,7 @@ use Rattle.quote.specs.Quotes.{quote_asked, revised_price, tree_cost, QuoteFille
 use Rattle.quote.specs.Trees.{shown, NoSmallerConcession, KeepsTheTree}
 use Rattle.quote.proofs.Differences.{difference_fits, list_cost_same}
 use Rattle.quote.proofs.ListCosts.{cost_within_few}
-use Rattle.quote.proofs.TreeQuotes.{tree, none_left_out, tree_is_short, link_price_small}
+use Rattle.quote.proofs.TreeQuotes.{tree, tree_is_short, link_price_small}
 use Rattle.quote.proofs.Keeping.{no_smaller_concession, keeps_the_tree}
 
 -- what the column's checks that passed say
@@ -44,9 +43,6 @@ module _ {T : Type 0} (parts : T → List ℤ) (width : ℕ) (h : Held) (sound :
 
   sized : length (map parts prices) ≡ 200
   sized = length-map prices parts ∙ long
-
-  pub cover_ready : Ready h (quote_asked width h (map parts prices)) h.stations
-  cover_ready = record { column_sized = sized; links_priced = legal_all; same_stations = refl; all_entered = none_left_out h sound planted }
 
   price_small : (k : ℕ) → is_link h.links k ≡ true → within 100000 (shown (map parts prices) k) ≡ true
   price_small = link_price_small h sound planted width (map parts prices) sized legal_all wide
@@ -95,10 +91,13 @@ module _ {T : Type 0} (parts : T → List ℤ) (width : ℕ) (h : Held) (sound :
           (subst (λ x. within 20000000 x ≡ true) (sym filled.cost_of_marked) (cover_cost_within (marked new.marks))))
           ∙ ap (λ x. minus x cost) (total-is ∙ shown_cost_is)
 
-      module _ (entry copied revised_now : List T) (copied_long : length copied ≡ length prices) (entry_long : length copied ≡ length entry) (now_long : length revised_now ≡ length copied)
-          (copied_is : (k : ℕ) (d : T) → get_or copied k d ≡ cond (is_link h.links k) (get_or prices k d) (get_or entry k d))
+      pub quote_least : NoSmallerConcession width h (map parts prices) concession
+      quote_least =
+          no_smaller_concession h sound planted width (map parts prices) sized legal_all wide sets new.marks filled.stages cost concession filled.cost_of_marked concession_is
+
+      module _ (entry revised_now : List T) (entry_long : length entry ≡ 200) (now_long : length revised_now ≡ length entry)
           (lowered : (k : ℕ) → listed (tree_of h) k ≡ true → shown (map parts revised_now) k ≡ minus (shown (map parts prices) k) (shown (map parts new.packing.left) k))
-          (others : (k : ℕ) (d : T) → listed (tree_of h) k ≡ false → get_or revised_now k d ≡ get_or copied k d) where
+          (others : (k : ℕ) (d : T) → listed (tree_of h) k ≡ false → get_or revised_now k d ≡ cond (is_link h.links k) (get_or prices k d) (get_or entry k d)) where
         in_force : (k : ℕ) → is_link h.links k ≡ true → shown (map parts prices) k ≡ price_of (quote_asked width h (map parts prices)) k
         in_force k link = sym (ap (λ b. cond b (get_or (map parts prices) k []) (nothing width)) link)
 
@@ -112,8 +111,7 @@ module _ {T : Type 0} (parts : T → List ℤ) (width : ℕ) (h : Held) (sound :
 
             beside : listed (tree_of h) k ≡ false → shown (map parts revised_now) k ≡ revised_price width h (map parts prices) sets k
             beside e =
-                same_parts parts revised_now copied k now_long (λ d. others k d e)
-                ∙ same_parts parts copied prices k copied_long (λ d. copied_is k d ∙ ap (λ b. cond b (get_or prices k d) (get_or entry k d)) link)
+                same_parts parts revised_now prices k (now_long ∙ entry_long ∙ sym long) (λ d. others k d e ∙ ap (λ b. cond b (get_or prices k d) (get_or entry k d)) link)
                 ∙ in_force k link
                 ∙ sym (ap (λ b. cond b (minus (price_of (quote_asked width h (map parts prices)) k) (left_of (left_after (quote_asked width h (map parts prices)) sets) k)) (price_of (quote_asked width h (map parts prices)) k)) e)
 
@@ -132,14 +130,10 @@ module _ {T : Type 0} (parts : T → List ℤ) (width : ℕ) (h : Held) (sound :
               covered = filled;
               concession_is = concession_is;
               revised_written = revised_is;
-              revised_untouched = λ k d none. others k d (not_in_tree k none) ∙ copied_is k d ∙ ap (λ b. cond b (get_or prices k d) (get_or entry k d)) none;
-              revised_sized = now_long ∙ entry_long;
+              revised_untouched = λ k d none. others k d (not_in_tree k none) ∙ ap (λ b. cond b (get_or prices k d) (get_or entry k d)) none;
+              revised_sized = now_long;
             }
 
         pub quote_keeps : KeepsTheTree width h (map parts prices) (map parts revised_now) concession
         quote_keeps =
             keeps_the_tree h sound planted width (map parts prices) sized legal_all wide sets new.marks filled.stages cost concession filled.cost_of_marked concession_is (map parts revised_now) revised_is
-
-        pub quote_least : NoSmallerConcession width h (map parts prices) concession
-        quote_least =
-            no_smaller_concession h sound planted width (map parts prices) sized legal_all wide sets new.marks filled.stages cost concession filled.cost_of_marked concession_is

@@ -1,3 +1,4 @@
 pub mod Trees
 pub mod Memory
+pub mod Lent
 pub mod Quotes

@@ -4,6 +4,7 @@ use Rattle.amount.specs.Parts.{minus}
 use Rattle.cover.specs.Filled.{Filled}
 use Rattle.duality.specs.Trees.{is_link, cost_of_list, revised}
 use Rattle.refusal.specs.Checks.{Check, ◌refuses_with◌}
+use Rattle.refusal.specs.declared.Refusal.{Refusal}
 use Rattle.refusal.specs.declared.Refusal.TheVariants.{MemorySize, NoTree}
 use Rattle.sheet.specs.Calls.{column_checks}
 use Rattle.sheet.specs.Held.{Held}
@@ -18,10 +19,10 @@ abbrev pub quote_asked : ℕ → Held → List (List ℤ) → Asked
 quote_asked width h column = asked_of width h column (tree_smallest h) (tree_largest h)
 
 -- the checks after the column's: the memory has the right size, and a tree is installed
-abbrev pub tree_quote_checks : Held → Bool → List Check
+abbrev pub tree_quote_checks : Held → Bool → List (Check Refusal)
 tree_quote_checks h memory_fits = (not memory_fits refuses_with MemorySize) ∷ (not (is_some h.tree) refuses_with NoTree) ∷ []
 
-abbrev pub quote_checks : Held → List (List ℤ) → Bool → List Check
+abbrev pub quote_checks : Held → List (List ℤ) → Bool → List (Check Refusal)
 quote_checks h column memory_fits = column_checks h column ++ tree_quote_checks h memory_fits
 
 -- the revised price of a link: of a tree link its price less what is left of it, of any other its price

@@ -3,5 +3,6 @@
 
 pub mod call;
 pub mod finding;
+pub mod memory;
 pub mod revising;
 pub mod tree_cost;

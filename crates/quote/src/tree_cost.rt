@@ -14,6 +14,8 @@ pub fn cost_of_listed<T: Amount>(prices: &[T], list: &[u16]) -> T
     ensures { T.parts result ≡ cost_of_list T.width (shown (map T.parts prices.now)) list.now }
 {
     let mut total = T::nothing();
+    // No `fold`: its proof needs a function that the closure computes at every total, and `plus` says what
+    // it gives only for a sum that fits.
     for k in list {
         total = total.plus(prices[*k as usize]);
     }

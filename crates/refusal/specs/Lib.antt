@@ -1,2 +1,3 @@
+pub mod Conversions
 pub mod Numbers
 pub mod Checks

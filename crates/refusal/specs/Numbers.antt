@@ -1,6 +1,7 @@
 -- Every refusal has a number, and some carry more: the one place that says which.
 use Rattle.std.specs.Prelude.{ℕ, List, [], ◌∷◌}
 use Rattle.stations.specs.Sets.{rising}
+use Rattle.refusal.specs.Conversions.{refusal_of_link, refusal_of_tree}
 use Rattle.refusal.specs.declared.Refusal.{Refusal}
 use Rattle.refusal.specs.declared.Refusal.TheVariants.{ColumnSize, PriceInColumn, StationCount, LinkNumber, LinkInUse, NoSuchStation, EqualEnds, PriceOffered, NoSuchLink, LinkInTree, TreeLength, StationNotReached, NoTree, MemorySize, MemberNotEntered, EqualRouteEnds, FamilyStations, TextSize, FileSize, FileKind, FilePair, FileSection, FileRecord, FileTree}
 
@@ -56,5 +57,5 @@ carried_by FileSize = []
 carried_by FileKind = []
 carried_by FilePair = []
 carried_by FileSection = []
-carried_by (FileRecord place inner) = place ∷ inner ∷ []
-carried_by (FileTree inner) = inner ∷ []
+carried_by (FileRecord place inner) = place ∷ number_of (refusal_of_link inner) ∷ []
+carried_by (FileTree inner) = number_of (refusal_of_tree inner) ∷ []

@@ -4,58 +4,91 @@
 
 ghost use Rattle.std.specs.Prelude.{◌≡◌};
 ghost use Rattle.refusal.specs.Numbers.{number_of};
+ghost use Rattle.refusal.specs.Conversions.{refusal_of_link, refusal_of_tree};
+ghost use Rattle.refusal.specs.declared.Refusal.TheVariants.{StationCount};
+
+use stations::count::WrongCount;
+use thiserror::Error;
+
+/// Why a link cannot be added.
+#[derive(Clone, Copy, Debug, PartialEq, Eq, Error)]
+pub enum LinkRefusal {
+    #[error("a link number above 199")]
+    LinkNumber,
+    #[error("a link number that a link has already")]
+    LinkInUse,
+    #[error("a station that the sheet does not have")]
+    NoSuchStation,
+    #[error("a link whose tail is its head")]
+    EqualEnds,
+    #[error("an illegal price, offered for a link")]
+    PriceOffered,
+}
+
+/// Why a tree cannot be installed.
+#[derive(Clone, Copy, Debug, PartialEq, Eq, Error)]
+pub enum TreeRefusal {
+    #[error("a tree list whose length is not one less than the number of stations")]
+    TreeLength,
+    #[error("a number that names no link")]
+    NoSuchLink,
+    #[error("a station that the tree list does not reach from the base")]
+    StationNotReached,
+}
 
 /// Why a call turned back. A refused call has changed nothing.
-#[derive(Clone, Copy)]
+#[derive(Clone, Copy, Debug, PartialEq, Eq, Error)]
 pub enum Refusal {
-    /// A price column that has not 200 places.
+    #[error("a price column that has not 200 places")]
     ColumnSize,
-    /// An illegal price of a link in the price column.
+    #[error("an illegal price of a link in the price column")]
     PriceInColumn,
-    /// Fewer than 2 or more than 40 stations.
+    #[error("fewer than 2 or more than 40 stations")]
     StationCount,
-    /// A link number above 199.
+    #[error("a link number above 199")]
     LinkNumber,
-    /// A link number that a link has already.
+    #[error("a link number that a link has already")]
     LinkInUse,
-    /// A station that the sheet, or the number of stations given, does not have.
+    #[error("a station that the sheet, or the number of stations given, does not have")]
     NoSuchStation,
-    /// A link whose tail is its head.
+    #[error("a link whose tail is its head")]
     EqualEnds,
-    /// An illegal price, offered for a link.
+    #[error("an illegal price, offered for a link")]
     PriceOffered,
-    /// A number that names no link.
+    #[error("a number that names no link")]
     NoSuchLink,
-    /// A link that the installed tree uses.
+    #[error("a link that the installed tree uses")]
     LinkInTree,
-    /// A tree list whose length is not one less than the number of stations.
+    #[error("a tree list whose length is not one less than the number of stations")]
     TreeLength,
-    /// A station that the tree list does not reach from the base.
+    #[error("a station that the tree list does not reach from the base")]
     StationNotReached,
-    /// A sheet without an installed tree.
+    #[error("a sheet without an installed tree")]
     NoTree,
-    /// A column, list or marks of another size than stated.
+    #[error("a column, list or marks of another size than stated")]
     MemorySize,
-    /// A family with a member that no link of the sheet enters: that set, as a mask.
+    /// That set, as a mask.
+    #[error("a family with a member that no link of the sheet enters, the mask {0:#b}")]
     MemberNotEntered(u64),
-    /// A route from a station to itself.
+    #[error("a route from a station to itself")]
     EqualRouteEnds,
-    /// A family made for another number of stations.
+    #[error("a family made for another number of stations")]
     FamilyStations,
-    /// A text buffer under 32,768 bytes.
+    #[error("a text buffer under 32,768 bytes")]
     TextSize,
-    /// A file under 20 or over 4,096 bytes.
+    #[error("a file under 20 or over 4,096 bytes")]
     FileSize,
-    /// A file of another kind of amount, or with a pair count other than 2.
+    #[error("a file of another kind of amount, or with a pair count other than 2")]
     FileKind,
-    /// A file's pair of offset and length that starts too early or ends behind the file.
+    #[error("a file's pair of offset and length that starts too early or ends behind the file")]
     FilePair,
-    /// A file's section of a length that does not fit what it holds.
+    #[error("a file's section of a length that does not fit what it holds")]
     FileSection,
-    /// A file's link record that cannot be added: its place, from 0, and the number that adding gives.
-    FileRecord(u16, u8),
-    /// A file's tree that cannot be installed, with the number that installing gives.
-    FileTree(u8),
+    /// The record's place, from 0, and why.
+    #[error("a file's link record {0} that cannot be added: {1}")]
+    FileRecord(u16, LinkRefusal),
+    #[error("a file's tree that cannot be installed: {0}")]
+    FileTree(TreeRefusal),
 }
 
 impl Refusal {
@@ -63,6 +96,7 @@ impl Refusal {
     pub fn number(&self) -> u8
         ensures { result ≡ number_of self.now }
     {
+        // A table: cases that carry something have no discriminant of their own.
         match *self {
             Refusal::ColumnSize => 1,
             Refusal::PriceInColumn => 2,
@@ -88,6 +122,42 @@ impl Refusal {
             Refusal::FileSection => 33,
             Refusal::FileRecord(_, _) => 34,
             Refusal::FileTree(_) => 35,
+        }
+    }
+}
+
+impl From<LinkRefusal> for Refusal {
+    ghost from_gives = { λ why refusal. refusal ≡ refusal_of_link why };
+
+    fn from(why: LinkRefusal) -> Refusal {
+        match why {
+            LinkRefusal::LinkNumber => Refusal::LinkNumber,
+            LinkRefusal::LinkInUse => Refusal::LinkInUse,
+            LinkRefusal::NoSuchStation => Refusal::NoSuchStation,
+            LinkRefusal::EqualEnds => Refusal::EqualEnds,
+            LinkRefusal::PriceOffered => Refusal::PriceOffered,
+        }
+    }
+}
+
+impl From<TreeRefusal> for Refusal {
+    ghost from_gives = { λ why refusal. refusal ≡ refusal_of_tree why };
+
+    fn from(why: TreeRefusal) -> Refusal {
+        match why {
+            TreeRefusal::TreeLength => Refusal::TreeLength,
+            TreeRefusal::NoSuchLink => Refusal::NoSuchLink,
+            TreeRefusal::StationNotReached => Refusal::StationNotReached,
+        }
+    }
+}
+
+impl From<WrongCount> for Refusal {
+    ghost from_gives = { λ _ refusal. refusal ≡ StationCount };
+
+    fn from(why: WrongCount) -> Refusal {
+        match why {
+            WrongCount => Refusal::StationCount,
         }
     }
 }

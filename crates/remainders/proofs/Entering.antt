@@ -1,42 +1,18 @@
--- The links of a sheet have low ends, as the test of entering asks; and the searches among the links that
--- enter a set, one number on: what is still to look at decides. By taking the first number off it.
-use Rattle.std.proofs.Common.{◌≡◌, ℕ, suc, ◌+◌, ◌-◌, ◌<◌, ◌≤◌, Bool, true, false, cond, List, map, length, get_or, take, drop, ℤ, Some, None, Option, sym, refl, ap, ◌∙◌, ap₂, arith}
-use Rattle.std.proofs.lemmas.List.{drop_more, drop_all, get_or-take, length-take-le}
-use Rattle.std.proofs.lemmas.Bool.{cond-true, cond-false}
+-- The searches among the links that enter a set: by induction on the list, and one number on.
+use Rattle.std.proofs.Common.{◌≡◌, ℕ, suc, ◌+◌, ◌-◌, ◌<◌, ◌≤◌, Bool, true, false, cond, List, [], ◌∷◌, map, length, get_or, ℤ, Some, None, Option, sym, refl, ap, ◌∙◌, ap₂, arith}
+use Rattle.std.specs.List.{find}
 use Rattle.amount.specs.Parts.{below}
-use Rattle.digraph.specs.Entering.{enters, enters_at}
-use Rattle.digraph.specs.Links.{Slots, link_at, Proper}
-use Rattle.digraph.specs.Steps.{Low}
-use Rattle.digraph.specs.declared.link.Link.{Link}
-use Rattle.sheet.proofs.Columns.{get_or-map_read}
+use Rattle.digraph.specs.Entering.{enters_at}
+use Rattle.digraph.specs.Links.{Slots}
+use Rattle.remainders.proofs.Reading.{get_or-map_read}
 use Rattle.stages.specs.Packing.{Left, left_of, tighter, tightest_from}
 use Rattle.stages.specs.Taking.{first_entering}
 use Rattle.remainders.specs.Marks.{Numbered}
 
-pub link_is_low : (n : ℕ) (slots : Slots) → Proper n slots → n ≤ 40 → (k : ℕ) → Low (link_at slots k)
-link_is_low n slots proper few k l e = (omega (arith, (proper k l e).0), omega (arith, (proper k l e).1))
-
-pub entered_as_tested : (slots : Slots) (k set : ℕ) (o : Option Link) (r : Bool) → o ≡ link_at slots k → r ≡ enters o set → (t : Bool) → r ≡ t → enters_at slots k set ≡ t
-entered_as_tested slots k set o r link tested t e = sym (tested ∙ ap (λ x. enters x set) link) ∙ e
-
--- ---- the first link of a list that enters a set
-
-module _ (slots : Slots) (set count : ℕ) (order : List ℕ) (long : count ≤ length order) (i : ℕ)
-    (inv : first_entering slots set (drop i (take count order)) ≡ first_entering slots set (take count order)) where
-  unrolled : i < count → cond (enters_at slots (get_or order i 0) set) (Some (get_or order i 0)) (first_entering slots set (drop (i + 1) (take count order))) ≡ first_entering slots set (take count order)
-  unrolled h =
-      ap (λ k. cond (enters_at slots k set) (Some k) (first_entering slots set (drop (i + 1) (take count order)))) (sym (get_or-take count order i 0 h))
-      ∙ ap (first_entering slots set) (sym (drop_more (take count order) i 0 (omega (arith, length-take-le count order long))))
-      ∙ inv
-
-  pub first_entering_one_on : i < count → enters_at slots (get_or order i 0) set ≡ false → first_entering slots set (drop (i + 1) (take count order)) ≡ first_entering slots set (take count order)
-  first_entering_one_on h e = sym (cond-false _ _ _ e) ∙ unrolled h
-
-  pub first_entering_here : i < count → enters_at slots (get_or order i 0) set ≡ true → Some (get_or order i 0) ≡ first_entering slots set (take count order)
-  first_entering_here h e = sym (cond-true _ _ _ e) ∙ unrolled h
-
-  pub none_entering_at_end : count ≤ i → None ≡ first_entering slots set (take count order)
-  none_entering_at_end h = ap (first_entering slots set) (sym (drop_all i (take count order) (omega (arith, length-take-le count order long)))) ∙ inv
+-- the first link of a list that enters a set is the one that the library's search finds
+pub found_first : (slots : Slots) (set : ℕ) (ks : List ℕ) → find (λ k. enters_at slots k set) ks ≡ first_entering slots set ks
+found_first slots set [] = refl
+found_first slots set (k ∷ ks) = ap (cond (enters_at slots k set) (Some k)) (found_first slots set ks)
 
 -- ---- the link with least left
 

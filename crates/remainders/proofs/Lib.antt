@@ -3,3 +3,4 @@ pub mod Lowering
 pub mod Noting
 pub mod Passing
 pub mod Summing
+pub mod Reading

@@ -6,7 +6,7 @@ use Rattle.std.proofs.lemmas.Bool.{both_ways, cond-true, cond-false}
 use Rattle.amount.specs.Parts.{minus, Fitting}
 use Rattle.digraph.specs.Entering.{enters_at}
 use Rattle.digraph.specs.Links.{Slots}
-use Rattle.sheet.proofs.Columns.{get_or-map_read}
+use Rattle.remainders.proofs.Reading.{get_or-map_read}
 use Rattle.remainders.specs.Column.{spent, gone}
 use Rattle.remainders.proofs.Noting.{Noted, noted_none, noted_one_on}
 use Rattle.remainders.proofs.Passing.{Passed, passed_none, passed_unwritten, passed_written}

@@ -1,9 +1,10 @@
 -- Sums of amounts whose parts lie within a limit: the parts of a sum lie within as many times the limit,
 -- and fit 64 bits as long as there are few. By induction on the parts and on the amounts.
-use Rattle.std.proofs.Common.{◌≡◌, ℕ, zero, suc, ◌+◌, ◌*◌, ◌<◌, ◌≤◌, Bool, true, false, cond, List, [], ◌∷◌, length, ℤ, sym, refl, ap, ◌∙◌, subst, ap₂, add-one, arith}
+use Rattle.std.proofs.Common.{◌≡◌, ℕ, zero, suc, ◌+◌, ◌*◌, ◌<◌, ◌≤◌, Bool, true, false, cond, List, [], ◌∷◌, length, get_or, ℤ, sym, refl, ap, ◌∙◌, subst, ap₂, add-one, arith}
 use Rattle.std.proofs.lemmas.Int.{ints}
 use Rattle.amount.specs.Parts.{plus, nothing, within, Fitting}
 use Rattle.amount.proofs.Group.{plus_nothing}
+use Rattle.digraph.specs.Entering.{marked}
 use Rattle.duality.specs.Costs.{summed}
 use Rattle.duality.proofs.Wide.{parts_within, fitting_of_parts}
 
@@ -17,9 +18,17 @@ plus_within a b (x ∷ xs) [] p q = refl
 plus_within a b (x ∷ xs) (y ∷ ys) p q =
     let rest = plus_within a b xs ys (grind (arith, ints)) (grind (arith, ints)) in grind (arith, ints)
 
-pub small_if_marked : (n : ℕ) (b : Bool) (p : List ℤ) → (b ≡ true → within 100000 p ≡ true) → within 100000 (cond b p (nothing n)) ≡ true
-small_if_marked n true p small = small refl
-small_if_marked n false p small = nothing_within 100000 n
+-- what a number counts for: its price if it is marked, nothing else
+abbrev pub priced_if_marked : ℕ → List ℕ → List (List ℤ) → ℕ → List ℤ
+priced_if_marked n marks prices k = cond (marked marks k) (get_or prices k []) (nothing n)
+
+pub priced_small : (n : ℕ) (marks : List ℕ) (prices : List (List ℤ)) → ((k : ℕ) → marked marks k ≡ true → within 100000 (get_or prices k []) ≡ true)
+    → (k : ℕ) → within 100000 (priced_if_marked n marks prices k) ≡ true
+priced_small n marks prices small k = go (marked marks k) (small k)
+  where
+    go : (b : Bool) → (b ≡ true → within 100000 (get_or prices k []) ≡ true) → within 100000 (cond b (get_or prices k []) (nothing n)) ≡ true
+    go true small = small refl
+    go false small = nothing_within 100000 n
 
 module _ (n : ℕ) (f : ℕ → List ℤ) (small : (k : ℕ) → within 100000 (f k) ≡ true) where
   pub summed_within : (m : ℕ) → within (100000 * m) (summed n f m) ≡ true

@@ -14,9 +14,9 @@ pub fn cost_of_marked<T: Amount>(prices: &[T], marks: &[u8; LINKS]) -> T
     ensures { T.parts result ≡ summed T.width (λ k. (if marked marks.now k then slice_index_or (map T.parts prices.now) k [] else no_amount T.width)) 200 }
 {
     let mut total = T::nothing();
-    for k in 0..LINKS {
-        if marks[k] != 0 {
-            total = total.plus(prices[k]);
+    for (mark, price) in marks.iter().zip(prices) {
+        if *mark != 0 {
+            total = total.plus(*price);
         }
     }
     total

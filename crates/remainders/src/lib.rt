@@ -4,5 +4,6 @@
 
 pub mod column;
 pub mod cost;
+pub(crate) mod links;
 pub mod tightest;
 pub mod used_up;

@@ -3,8 +3,8 @@ ghost use Rattle.std.specs.Prelude.{◌≡◌, ◌<◌, cond, [], map, length, N
 ghost use Rattle.stages.specs.Packing.{tighter as tighter_of, tightest as tightest_of};
 ghost use Rattle.remainders.specs.Marks.{Numbered};
 
+use crate::links::link_enters;
 use amount::kind::Amount;
-use digraph::entering::enters;
 use digraph::table::LINKS;
 use sheet::Sheet;
 
@@ -13,9 +13,11 @@ pub fn tightest<T: Amount>(sheet: &Sheet, left: &[T], set: u64) -> Option<u16>
     requires { length left.now ≡ 200 }
     ensures { result ≡ tightest_of sheet.now.links.slots (map T.parts left.now) set }
 {
+    // No `filter` and `reduce`: that the numbers that each call of the closure gets are below 200, which its
+    // reads of the column need, was tried and is not proved.
     let mut best = None;
     for k in 0..LINKS as u16 {
-        if enters(sheet.link(k), set) {
+        if link_enters(sheet, k, set) {
             best = tighter(left, best, k);
         }
     }

@@ -1,4 +1,3 @@
-pub mod Installing
 pub mod Histories
 pub mod HistorySteps
 pub mod Chains

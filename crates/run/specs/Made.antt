@@ -1,5 +1,6 @@
 -- One call: what refuses it, what it moves on the sheet and in the column, and what it fills.
-use Rattle.std.specs.Prelude.{◌≡◌, ℕ, Bool, cond, List, map, ℤ, is_some, Some, None, Ok, Err, Decides, Option, Result, slice_set}
+use Rattle.std.specs.Prelude.{◌≡◌, ℕ, Bool, cond, List, map, ℤ, Some, None, is_ok, MatchResult, Decides, Option, slice_set}
+use Rattle.std.specs.Result.{result_err}
 use Rattle.cover.specs.Filled.{Filled, Small}
 use Rattle.cover.specs.Memory.{memory_sized}
 use Rattle.cover.specs.Ready.{cover_checks}
@@ -16,11 +17,11 @@ use Rattle.sheet.specs.Held.{Held, with_link, with_tree}
 use Rattle.stages.specs.Asked.{Asked, asked_of}
 use Rattle.stages.specs.Theorems.{CheapestCover}
 use Rattle.run.specs.States.{State}
-use Rattle.run.specs.History.{refusal_of}
+use Rattle.run.specs.History.{Outcome}
 use Rattle.run.specs.declared.calls.Call.{Call}
 use Rattle.run.specs.declared.calls.Call.TheVariants.{Add, Reprice, Withdraw, Install, Quote, Cover as CoverOf}
-use Rattle.run.specs.declared.calls.Outcome.{Outcome}
-use Rattle.run.specs.declared.calls.Outcome.TheVariants.{Done, Quoted, Covered, Refused}
+use Rattle.run.specs.declared.calls.Answer.{Answer}
+use Rattle.run.specs.declared.calls.Answer.TheVariants.{Done, Quoted, Covered}
 
 -- what amounts and families mean: the width and the parts of an amount, and of a family its number of
 -- stations and what its two questions answer
@@ -34,11 +35,6 @@ pub record Kinds (T F : Type 0) : Type 0 where
 abbrev pub kinds : {T F : Type 0} → ℕ → (T → List ℤ) → (F → ℕ) → (F → Held → List ℕ → Option ℕ) → (F → Held → List ℕ → Option ℕ) → Kinds T F
 kinds width parts size small large = record { width = width; parts = parts; size = size; small = small; large = large }
 
--- what becomes of a call that answers nothing
-abbrev pub outcome_of : {T A : Type 0} → Result A Refusal → Outcome T
-outcome_of (Ok x) = Done
-outcome_of (Err why) = Refused why
-
 module _ {T F : Type 0} (K : Kinds T F) where
   -- the column by its parts
   abbrev pub prices_of : State T → List (List ℤ)
@@ -50,7 +46,7 @@ module _ {T F : Type 0} (K : Kinds T F) where
 
   -- a call is refused by the first check that fails, and accepted if none does
   abbrev pub RefusedBy : State T → Call T F → Option Refusal → Type 0
-  RefusedBy s (Add k tail head price) why = why ≡ first (add_checks s.sheet (prices_of s) k tail head (K.parts price))
+  RefusedBy s (Add k l price) why = why ≡ first (add_checks s.sheet (prices_of s) k l.tail l.head (K.parts price))
   RefusedBy s (Reprice k price) why = why ≡ first (reprice_checks s.sheet (prices_of s) k (K.parts price))
   RefusedBy s (Withdraw k) why = why ≡ first (withdraw_checks s.sheet (prices_of s) k)
   RefusedBy s (Install lent) why =
@@ -61,20 +57,15 @@ module _ {T F : Type 0} (K : Kinds T F) where
 
   -- what an accepted call leaves on the sheet, and in the column
   abbrev pub sheet_after : State T → Call T F → Held
-  sheet_after s (Add k tail head price) = with_link s.sheet k (Some (record { tail = tail; head = head }))
-  sheet_after s (Reprice k price) = s.sheet
+  sheet_after s (Add k l price) = with_link s.sheet k (Some l)
   sheet_after s (Withdraw k) = with_link s.sheet k None
   sheet_after s (Install lent) = with_tree s.sheet lent.now
-  sheet_after s Quote = s.sheet
-  sheet_after s (CoverOf f) = s.sheet
+  sheet_after s _ = s.sheet
 
   abbrev pub column_after : State T → Call T F → List T
-  column_after s (Add k tail head price) = slice_set s.column k price
+  column_after s (Add k l price) = slice_set s.column k price
   column_after s (Reprice k price) = slice_set s.column k price
-  column_after s (Withdraw k) = s.column
-  column_after s (Install lent) = s.column
-  column_after s Quote = s.column
-  column_after s (CoverOf f) = s.column
+  column_after s _ = s.column
 
   -- what an accepted quote answers and fills, and that it is the least that keeps the tree
   pub record QuoteMade (s after : State T) (q : QuoteAnswer T) : Type 0 where
@@ -90,36 +81,23 @@ module _ {T F : Type 0} (K : Kinds T F) where
     pub small : Small K.parts (cover_asked s f) after.memory.cover.packing c.sets
     pub cheapest : CheapestCover (cover_asked s f) (member f) after.memory.cover.marks (K.parts c.cost)
 
-  -- a call that answers nothing becomes done or refused, and leaves the memory alone
-  abbrev pub Plain : State T → State T → Outcome T → Type 0
-  Plain s after Done = after.memory ≡ s.memory
-  Plain s after (Quoted q) = ⊥
-  Plain s after (Covered c) = ⊥
-  Plain s after (Refused why) = after.memory ≡ s.memory
+  -- what an accepted call answers, and what it leaves in the memory; only a quote and a cover fill it
+  abbrev pub Answered : (member : F → ℕ → Type 0) → State T → State T → Call T F → Answer T → Type 0
+  Answered member s after (Add k l price) Done = after.memory ≡ s.memory
+  Answered member s after (Reprice k price) Done = after.memory ≡ s.memory
+  Answered member s after (Withdraw k) Done = after.memory ≡ s.memory
+  Answered member s after (Install lent) Done = after.memory ≡ s.memory
+  Answered member s after Quote (Quoted q) = QuoteMade s after q
+  Answered member s after (CoverOf f) (Covered c) = CoverMade member s after f c
+  Answered member s after _ _ = ⊥
 
-  abbrev pub QuoteBecame : State T → State T → Outcome T → Type 0
-  QuoteBecame s after Done = ⊥
-  QuoteBecame s after (Quoted q) = QuoteMade s after q
-  QuoteBecame s after (Covered c) = ⊥
-  QuoteBecame s after (Refused why) = after.memory ≡ s.memory
-
-  abbrev pub CoverBecame : (member : F → ℕ → Type 0) → F → State T → State T → Outcome T → Type 0
-  CoverBecame member f s after Done = ⊥
-  CoverBecame member f s after (Quoted q) = ⊥
-  CoverBecame member f s after (Covered c) = CoverMade member s after f c
-  CoverBecame member f s after (Refused why) = after.memory ≡ s.memory
-
+  -- what a call answers and leaves in the memory; a refused one leaves the memory alone
   abbrev pub Became : (member : F → ℕ → Type 0) → State T → State T → Call T F → Outcome T → Type 0
-  Became member s after (Add k tail head price) o = Plain s after o
-  Became member s after (Reprice k price) o = Plain s after o
-  Became member s after (Withdraw k) o = Plain s after o
-  Became member s after (Install lent) o = Plain s after o
-  Became member s after Quote o = QuoteBecame s after o
-  Became member s after (CoverOf f) o = CoverBecame member f s after o
+  Became member s after call o = MatchResult o (Answered member s after call) (λ _. after.memory ≡ s.memory)
 
   -- a call that was made, from one state to the next
   pub record Made (member : F → ℕ → Type 0) (s after : State T) (call : Call T F) (o : Outcome T) : Type 0 where
-    pub refusal : RefusedBy s call (refusal_of o)
-    pub sheet : after.sheet ≡ cond (is_some (refusal_of o)) s.sheet (sheet_after s call)
-    pub column : after.column ≡ cond (is_some (refusal_of o)) s.column (column_after s call)
+    pub refusal : RefusedBy s call (result_err o)
+    pub sheet : after.sheet ≡ cond (is_ok o) (sheet_after s call) s.sheet
+    pub column : after.column ≡ cond (is_ok o) (column_after s call) s.column
     pub became : Became member s after call o

@@ -1,33 +1,36 @@
 //! The calls of a run, and what becomes of them.
 use cover::in_stages::Cover;
+use digraph::link::Link;
 use quote::finding::Quote;
 use refusal::Refusal;
 
 /// A call on a sheet, with what it is handed beside the sheet, the price column and the memory.
+#[derive(Clone, Copy, Debug, PartialEq, Eq)]
 pub enum Call<'a, T, F> {
-    /// A link's number, tail and head, and its price.
-    Add(u16, u8, u8, T),
-    /// A link's number and its new price.
-    Reprice(u16, T),
-    /// A link's number.
-    Withdraw(u16),
-    /// The numbers of a tree's links.
-    Install(&'a [u16]),
-    /// A quote for the installed tree.
+    /// Adds a link under its number, at its price.
+    Add { number: u16, link: Link, price: T },
+    /// Gives the link of a number another price.
+    Reprice { number: u16, price: T },
+    /// Takes the link of a number off the sheet.
+    Withdraw { number: u16 },
+    /// Installs the tree of the links that have these numbers.
+    Install { tree: &'a [u16] },
+    /// Asks for a quote for the installed tree.
     Quote,
-    /// A cover of a family.
-    Cover(F),
+    /// Asks for a cover of a family.
+    Cover { family: F },
 }
 
-/// What became of a call.
-#[derive(Clone, Copy)]
-pub enum Outcome<T> {
-    /// It was accepted: an add, a reprice, a withdraw or an install.
+/// What an accepted call answers.
+#[derive(Clone, Copy, Debug, PartialEq, Eq)]
+pub enum Answer<T> {
+    /// An add, a reprice, a withdraw or an install answers nothing.
     Done,
-    /// A quote was accepted, with its answer.
+    /// What a quote found.
     Quoted(Quote<T>),
-    /// A cover was accepted, with its answer.
+    /// What a cover found.
     Covered(Cover<T>),
-    /// It was refused, and changed nothing.
-    Refused(Refusal),
 }
+
+/// What became of a call: its answer, or why it was refused and changed nothing.
+pub type Outcome<T> = Result<Answer<T>, Refusal>;

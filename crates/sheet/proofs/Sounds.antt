@@ -22,9 +22,9 @@ held_tree_spans n slots (Some t) spans list e =
 pub sheet_is_sound : (s : Sheet) → Sound (held s)
 sheet_is_sound s =
     record {
-      some = s.some;
-      few = s.few;
+      some = s.stations.some;
+      few = s.stations.few;
       sized = s.links.sized;
       proper = s.proper;
-      spans = held_tree_spans s.stations s.links.slots s.tree s.spans;
+      spans = held_tree_spans s.stations.count s.links.slots s.tree s.spans;
     }

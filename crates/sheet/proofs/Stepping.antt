@@ -1,9 +1,9 @@
 -- A search over the steps along a list of links decides whether the list is a spanning tree: every
 -- station is seen, and no other, exactly if a path along the list leads to each.
-use Rattle.std.proofs.Common.{◌≡◌, ℕ, zero, suc, ◌+◌, ◌-◌, ◌^◌, ◌<◌, ◌≤◌, true, eqb, List, [], ◌∷◌, map, length, get_or, replicate, is_some, None, Decides, sym, ◌∙◌, subst, arith}
+use Rattle.std.proofs.Common.{◌≡◌, ℕ, ◌+◌, ◌-◌, ◌^◌, ◌<◌, ◌≤◌, true, eqb, List, map, length, get_or, replicate, None, Decides, sym, ◌∙◌, subst, arith}
 use Rattle.std.proofs.lemmas.Nat.{pow_pos}
 use Rattle.std.proofs.lemmas.List.{get_or-map, length-map}
-use Rattle.std.proofs.lemmas.Bool.{eq-eqb, eqb-true, and_parts}
+use Rattle.std.proofs.lemmas.Bool.{eq-eqb, eqb-true}
 use Rattle.stations.specs.Sets.{In, has}
 use Rattle.stations.proofs.Digits.{digit_ones_below, Part-antisym, In→has, has→In, In-below}
 use Rattle.digraph.specs.Links.{Slots, link_at}
@@ -14,16 +14,8 @@ use Rattle.digraph.specs.Trees.{Along, SpanningTree}
 use Rattle.digraph.proofs.Stepping.{AllLow, Somewhere, next_somewhere, somewhere_next}
 use Rattle.digraph.proofs.Walks.{path_by_other_steps}
 use Rattle.sheet.specs.Calls.{all_links}
+use Rattle.sheet.proofs.Columns.{named_at_place}
 use Rattle.digraph.specs.Links.{Proper}
-
--- a test that every number names a link, place by place
-named_each : (slots : Slots) (ks : List ℕ) → all_links slots ks ≡ true → (i : ℕ) → i < length ks → is_some (link_at slots (get_or ks i 0)) ≡ true
-named_each slots [] e i h = absurd (below_none i h)
-  where
-    below_none : (i : ℕ) → i < 0 → ⊥
-    below_none i j = omega arith
-named_each slots (k ∷ ks) e zero h = (and_parts (is_some (link_at slots k)) (all_links slots ks) e).0
-named_each slots (k ∷ ks) e (suc i) h = named_each slots ks (and_parts (is_some (link_at slots k)) (all_links slots ks) e).1 i (omega arith)
 
 module _ (n : ℕ) (slots : Slots) (proper : Proper n slots) (few : n ≤ 40) where
   -- the links of a list of numbers lie between stations
@@ -60,7 +52,7 @@ module _ (n : ℕ) (slots : Slots) (proper : Proper n slots) (few : n ≤ 40) wh
         tree e =
             record {
               one_fewer = count;
-              of_links = named_each slots ks named;
+              of_links = named_at_place slots ks named;
               reaches = λ v h. path_by_other_steps next_along ((found v).0 (In→has r v (subst (λ (m : ℕ). In m v) (sym (eqb-true r (2 ^ n - 1) e)) (digit_ones_below n v h))));
             }
 

@@ -14,9 +14,9 @@ pub record Held : Type 0 where
 abbrev pub held : Sheet → Held
 held s =
     record {
-      stations = s.stations;
+      stations = s.stations.count;
       links = s.links.slots;
-      tree = option_map (λ t. take (s.stations - 1) t.numbers) s.tree;
+      tree = option_map (λ t. take (s.stations.count - 1) t.numbers) s.tree;
     }
 
 -- just opened for so many stations: no links and no tree

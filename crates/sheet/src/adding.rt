@@ -9,7 +9,7 @@ use crate::Sheet;
 use amount::kind::Amount;
 use digraph::link::Link;
 use digraph::table::LINKS;
-use refusal::Refusal;
+use refusal::{LinkRefusal, Refusal};
 
 impl Sheet {
     /// Adds a link, and puts its price into the column at its number.
@@ -17,50 +17,44 @@ impl Sheet {
         &mut self,
         prices: &mut [T],
         number: u16,
-        tail: u8,
-        head: u8,
+        link: Link,
         price: T,
     ) -> Result<(), Refusal>
-        ensures refusal { result_err result ≡ first (add_checks (held self.old) (map T.parts prices.old) number tail head (T.parts price)) }
+        ensures refusal { result_err result ≡ first (add_checks (held self.old) (map T.parts prices.old) number link.tail link.head (T.parts price)) }
         ensures kept { is_ok result ≡ false → self.new ≡ self.old }
-        ensures holds { held self.new ≡ (if is_ok result then with_link (held self.old) number (Some (record { tail = tail; head = head })) else held self.old) }
+        ensures holds { held self.new ≡ (if is_ok result then with_link (held self.old) number (Some link) else held self.old) }
         ensures column { prices.new ≡ (if is_ok result then slice_set prices.old number price else prices.old) }
     {
         self.check_column(prices)?;
-        self.place(number, tail, head, price)?;
-        prices[number as usize] = price;
+        self.place(number, link, price)?;
+        prices[usize::from(number)] = price;
         Ok(())
     }
 
     /// Puts a link on the sheet, and its price nowhere: the column's checks and its write aside, this
     /// is what `add` does.
-    pub fn place<T: Amount>(
-        &mut self,
-        number: u16,
-        tail: u8,
-        head: u8,
-        price: T,
-    ) -> Result<(), Refusal>
-        ensures refusal { result_err result ≡ first (link_checks (held self.old) number tail head (T.parts price)) }
+    pub fn place<T: Amount>(&mut self, number: u16, link: Link, price: T) -> Result<(), LinkRefusal>
+        ensures refusal { result_err result ≡ first (link_checks (held self.old) number link.tail link.head (T.parts price)) }
         ensures kept { is_ok result ≡ false → self.new ≡ self.old }
-        ensures holds { held self.new ≡ (if is_ok result then with_link (held self.old) number (Some (record { tail = tail; head = head })) else held self.old) }
+        ensures holds { held self.new ≡ (if is_ok result then with_link (held self.old) number (Some link) else held self.old) }
     {
-        if number as usize >= LINKS {
-            return Err(Refusal::LinkNumber);
+        if usize::from(number) >= LINKS {
+            return Err(LinkRefusal::LinkNumber);
         }
         if self.link(number).is_some() {
-            return Err(Refusal::LinkInUse);
+            return Err(LinkRefusal::LinkInUse);
         }
-        if tail >= self.stations || head >= self.stations {
-            return Err(Refusal::NoSuchStation);
+        let Link { tail, head } = link;
+        if tail >= self.stations() || head >= self.stations() {
+            return Err(LinkRefusal::NoSuchStation);
         }
         if tail == head {
-            return Err(Refusal::EqualEnds);
+            return Err(LinkRefusal::EqualEnds);
         }
         if !price.is_legal() {
-            return Err(Refusal::PriceOffered);
+            return Err(LinkRefusal::PriceOffered);
         }
-        self.links.put(number as usize, Some(Link { tail, head }));
+        self.links.put(usize::from(number), Some(link));
         Ok(())
     }
 }

@@ -7,10 +7,10 @@ ghost use Rattle.sheet.specs.Held.{held, with_tree};
 ghost use Rattle.sheet.specs.Calls.{install_checks, tree_checks};
 
 use crate::Sheet;
-use crate::numbers::{Listed, Numbers};
+use crate::numbers::LinkNumber;
 use crate::spanning::{names_links, spans, tree_of};
 use amount::kind::Amount;
-use refusal::Refusal;
+use refusal::{Refusal, TreeRefusal};
 
 impl Sheet {
     /// Installs the tree of a list of link numbers, in place of any earlier one.
@@ -20,24 +20,25 @@ impl Sheet {
         ensures holds { held self.new ≡ (if is_ok result then with_tree (held self.old) list.now else held self.old) }
     {
         self.check_column(prices)?;
-        self.plant(&Listed { slice: list })
+        self.plant(list)?;
+        Ok(())
     }
 
-    /// Installs the tree of a list of link numbers, wherever they lie: the column's checks aside, this
-    /// is what `install` does.
-    pub fn plant<L: Numbers>(&mut self, list: &L) -> Result<(), Refusal>
-        ensures refusal { (spanning : Bool) → Decides spanning (SpanningTree (held self.old).stations (held self.old).links (L.numbers list.now)) → result_err result ≡ first (tree_checks (held self.old) (L.numbers list.now) spanning) }
+    /// Installs the tree of a list of link numbers of any width: the column's checks aside, this is
+    /// what `install` does.
+    pub fn plant<N: LinkNumber>(&mut self, list: &[N]) -> Result<(), TreeRefusal>
+        ensures refusal { (spanning : Bool) → Decides spanning (SpanningTree (held self.old).stations (held self.old).links (map N.number list.now)) → result_err result ≡ first (tree_checks (held self.old) (map N.number list.now) spanning) }
         ensures kept { is_ok result ≡ false → self.new ≡ self.old }
-        ensures holds { held self.new ≡ (if is_ok result then with_tree (held self.old) (L.numbers list.now) else held self.old) }
+        ensures holds { held self.new ≡ (if is_ok result then with_tree (held self.old) (map N.number list.now) else held self.old) }
     {
-        if list.count() != self.stations as usize - 1 {
-            return Err(Refusal::TreeLength);
+        if list.len() != usize::from(self.stations()) - 1 {
+            return Err(TreeRefusal::TreeLength);
         }
         if !names_links(self, list) {
-            return Err(Refusal::NoSuchLink);
+            return Err(TreeRefusal::NoSuchLink);
         }
         if !spans(self, list) {
-            return Err(Refusal::StationNotReached);
+            return Err(TreeRefusal::StationNotReached);
         }
         *self = Sheet {
             stations: self.stations,

@@ -1,12 +1,12 @@
 //! The sheet: stations, links by number, and the tree that a fleet's masts are aimed along.
 #![tactic(auto)]
 
-ghost use Rattle.std.specs.Prelude.{◌≤◌};
 ghost use Rattle.digraph.specs.Links.{Proper};
 ghost use Rattle.sheet.specs.Keeps.{Spans};
 
 use crate::tree::Tree;
 use digraph::table::LinkTable;
+use stations::count::StationCount;
 
 pub mod adding;
 pub mod column;
@@ -21,13 +21,11 @@ pub mod withdrawing;
 
 /// A sheet: 2 to 40 stations, links between them, and at most one installed tree, which is always a
 /// spanning tree of links of the sheet. Prices lie in a column that the caller lends to each call.
-#[derive(Clone, Copy)]
+#[derive(Debug, Clone, Copy, PartialEq, Eq)]
 pub struct Sheet {
-    stations: u8,
+    stations: StationCount,
     links: LinkTable,
     tree: Option<Tree>,
-    ghost some: { 2 ≤ stations },
-    ghost few: { stations ≤ 40 },
-    ghost proper: { Proper stations links.slots },
-    ghost spans: { Spans stations links.slots tree },
+    ghost proper: { Proper stations.count links.slots },
+    ghost spans: { Spans stations.count links.slots tree },
 }

@@ -1,36 +1,29 @@
-//! A list of link numbers, wherever it lies: a tree's numbers are installed from a caller's slice and
-//! from the bytes of a file alike.
-ghost use Rattle.std.specs.Prelude.{◌≡◌, ℕ, ◌<◌, List, length, slice_index};
+//! Link numbers of any width: a tree's list may hold them as a caller has them or as the bytes of a file.
+ghost use Rattle.std.specs.Prelude.{◌≡◌, ℕ};
 
-/// A list of link numbers that can be read place by place.
-pub trait Numbers {
-    /// The numbers, first to last.
-    ghost numbers: { Self → List ℕ };
+/// A link number, however wide it is kept.
+/// It is no `Into<u16>`, which relates its results to a value and gives clauses no list of numbers to name.
+pub trait LinkNumber: Copy {
+    /// The number.
+    ghost number: { Self → ℕ };
 
-    /// How many there are.
-    fn count(&self) -> usize
-        ensures { result ≡ length (numbers self.now) };
-
-    /// The one at place `i`.
-    fn at(&self, i: usize) -> u16
-        requires { i < length (numbers self.now) }
-        ensures { result ≡ slice_index (numbers self.now) i };
+    /// The number.
+    fn number(self) -> u16
+        ensures { result ≡ number self };
 }
 
-/// A caller's slice of numbers.
-#[derive(Clone, Copy)]
-pub struct Listed<'a> {
-    pub slice: &'a [u16],
-}
+impl LinkNumber for u16 {
+    ghost number = { λ n. n };
 
-impl Numbers for Listed<'_> {
-    ghost numbers = { λ s. s.slice.now };
-
-    fn count(&self) -> usize {
-        self.slice.len()
+    fn number(self) -> u16 {
+        self
     }
+}
 
-    fn at(&self, i: usize) -> u16 {
-        self.slice[i]
+impl LinkNumber for u8 {
+    ghost number = { λ n. n };
+
+    fn number(self) -> u16 {
+        u16::from(self)
     }
 }

@@ -8,14 +8,22 @@ ghost use Rattle.sheet.specs.Calls.{open_checks};
 use crate::Sheet;
 use digraph::table::LinkTable;
 use refusal::Refusal;
+use stations::count::StationCount;
 
 impl Sheet {
     /// A new sheet, as if opened for 2 stations.
     pub fn new() -> Sheet
         ensures { held result ≡ opened 2 }
     {
+        Sheet::for_stations(StationCount { count: 2 })
+    }
+
+    /// A sheet opened for `stations` stations: without links and without a tree.
+    pub fn for_stations(stations: StationCount) -> Sheet
+        ensures { held result ≡ opened stations.count }
+    {
         Sheet {
-            stations: 2,
+            stations,
             links: LinkTable::empty(),
             tree: None,
         }
@@ -27,14 +35,7 @@ impl Sheet {
         ensures kept { is_ok result ≡ false → self.new ≡ self.old }
         ensures holds { held self.new ≡ (if is_ok result then opened stations else held self.old) }
     {
-        if stations < 2 || 40 < stations {
-            return Err(Refusal::StationCount);
-        }
-        *self = Sheet {
-            stations,
-            links: LinkTable::empty(),
-            tree: None,
-        };
+        *self = Sheet::for_stations(StationCount::try_from(stations)?);
         Ok(())
     }
 }

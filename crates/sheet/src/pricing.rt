@@ -22,7 +22,7 @@ impl Sheet {
         if !price.is_legal() {
             return Err(Refusal::PriceOffered);
         }
-        prices[number as usize] = price;
+        prices[usize::from(number)] = price;
         Ok(())
     }
 }

@@ -3,7 +3,7 @@ ghost use Rattle.std.specs.Prelude.{◌≡◌, ◌<◌, [], is_some};
 ghost use Rattle.std.specs.Option.{unwrap_or};
 ghost use Rattle.digraph.specs.Links.{link_at};
 ghost use Rattle.sheet.specs.Held.{held};
-ghost use Rattle.sheet.specs.Calls.{in_tree as tree_has, listed};
+ghost use Rattle.sheet.specs.Calls.{in_tree as tree_has};
 
 use crate::Sheet;
 use digraph::link::Link;
@@ -14,14 +14,14 @@ impl Sheet {
     pub fn stations(&self) -> u8
         ensures { result ≡ (held self.now).stations }
     {
-        self.stations
+        self.stations.get()
     }
 
     /// The link of a number, if it names one.
     pub fn link(&self, number: u16) -> Option<Link>
         ensures { result ≡ link_at (held self.now).links number }
     {
-        let k = number as usize;
+        let k = usize::from(number);
         if k < LINKS { self.links.get(k) } else { None }
     }
 
@@ -39,7 +39,7 @@ impl Sheet {
     {
         match &self.tree {
             None => &[],
-            Some(tree) => &tree.numbers[0..usize::from(self.stations) - 1],
+            Some(tree) => &tree.numbers[0..usize::from(self.stations()) - 1],
         }
     }
 
@@ -47,21 +47,6 @@ impl Sheet {
     pub fn in_tree(&self, number: u16) -> bool
         ensures { result ≡ tree_has (held self.now) number }
     {
-        match self.tree {
-            None => false,
-            Some(tree) => is_listed(&tree.numbers[0..self.stations as usize - 1], number),
-        }
+        self.tree_links().contains(&number)
     }
-}
-
-/// Whether `number` stands in `list`.
-fn is_listed(list: &[u16], number: u16) -> bool
-    ensures { result ≡ listed number list.now }
-{
-    for x in list {
-        if *x == number {
-            return true;
-        }
-    }
-    false
 }

@@ -7,52 +7,47 @@ ghost use Rattle.sheet.specs.Held.{held};
 ghost use Rattle.sheet.specs.Calls.{all_links};
 
 use crate::Sheet;
-use crate::numbers::Numbers;
+use crate::numbers::LinkNumber;
 use crate::tree::{TREE_LINKS, Tree};
-use digraph::search::{STATIONS, reached};
-use digraph::steps::add_step;
+use digraph::steps::Steps;
 
 /// Whether every number of the list names a link of the sheet.
-pub fn names_links<L: Numbers>(sheet: &Sheet, list: &L) -> bool
-    ensures { result ≡ all_links (held sheet.now).links (L.numbers list.now) }
+pub fn names_links<N: LinkNumber>(sheet: &Sheet, list: &[N]) -> bool
+    ensures { result ≡ all_links (held sheet.now).links (map N.number list.now) }
 {
-    for i in 0..list.count() {
-        if sheet.link(list.at(i)).is_none() {
-            return false;
-        }
-    }
-    true
+    list.iter()
+        .all(|number| sheet.link(number.number()).is_some())
 }
 
 /// Whether a list of links of the sheet, one fewer than the stations, is a spanning tree.
-pub fn spans<L: Numbers>(sheet: &Sheet, list: &L) -> bool
-    requires count { length (L.numbers list.now) + 1 ≡ (held sheet.now).stations }
-    requires named { all_links (held sheet.now).links (L.numbers list.now) ≡ true }
-    ensures { Decides result (SpanningTree (held sheet.now).stations (held sheet.now).links (L.numbers list.now)) }
+pub fn spans<N: LinkNumber>(sheet: &Sheet, list: &[N]) -> bool
+    requires count { length list.now + 1 ≡ (held sheet.now).stations }
+    requires named { all_links (held sheet.now).links (map N.number list.now) ≡ true }
+    ensures { Decides result (SpanningTree (held sheet.now).stations (held sheet.now).links (map N.number list.now)) }
 {
-    let next = steps_along(sheet, list);
-    reached(&next, 0) == (1 << sheet.stations()) - 1
+    steps_along(sheet, list).reached(0) == (1 << sheet.stations()) - 1
 }
 
-/// For each station the mask of those that one link of the list leads to.
-fn steps_along<L: Numbers>(sheet: &Sheet, list: &L) -> [u64; STATIONS]
-    ensures { result ≡ steps_from (replicate 40 0) (map (link_at (held sheet.now).links) (L.numbers list.now)) }
+/// For each station those that one link of the list leads to.
+fn steps_along<N: LinkNumber>(sheet: &Sheet, list: &[N]) -> Steps
+    ensures { result.next ≡ steps_from (replicate 40 0) (map (link_at (held sheet.now).links) (map N.number list.now)) }
 {
-    let mut next = [0; STATIONS];
-    for i in 0..list.count() {
-        add_step(&mut next, sheet.link(list.at(i)));
+    let mut steps = Steps::none();
+    for number in list {
+        steps.add(sheet.link(number.number()));
     }
-    next
+    steps
 }
 
 /// The list as a tree to keep.
-pub fn tree_of<L: Numbers>(list: &L) -> Tree
-    requires { length (L.numbers list.now) ≤ 39 }
-    ensures { take (length (L.numbers list.now)) result.numbers ≡ L.numbers list.now }
+pub fn tree_of<N: LinkNumber>(list: &[N]) -> Tree
+    requires { length list.now ≤ 39 }
+    ensures { take (length list.now) result.numbers ≡ map N.number list.now }
 {
-    let mut tree = [0; TREE_LINKS];
-    for i in 0..list.count() {
-        tree[i] = list.at(i);
+    let mut numbers = [0; TREE_LINKS];
+    // By index: a proof knows nothing of the places that `iter_mut` writes.
+    for (place, number) in list.iter().enumerate() {
+        numbers[place] = number.number();
     }
-    Tree { numbers: tree }
+    Tree { numbers }
 }

@@ -4,7 +4,8 @@
 pub const TREE_LINKS: usize = 39;
 
 /// The numbers of a tree's links, in the first places, one fewer than the sheet has stations.
-#[derive(Clone, Copy)]
+/// It keeps a whole array, and its length beside it as the sheet's stations: a sheet is a plain `Copy` value.
+#[derive(Debug, Clone, Copy, PartialEq, Eq)]
 pub struct Tree {
     pub numbers: [u16; TREE_LINKS],
 }

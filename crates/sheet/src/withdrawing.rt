@@ -24,7 +24,7 @@ impl Sheet {
             return Err(Refusal::LinkInTree);
         }
         let mut links = self.links;
-        links.put(number as usize, None);
+        links.put(usize::from(number), None);
         *self = Sheet {
             stations: self.stations,
             links,

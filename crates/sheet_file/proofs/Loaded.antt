@@ -1,7 +1,8 @@
 -- Loading is placing every link on a sheet of its own and writing the prices afterwards: the checks of
 -- the column pass at every record, since it has 200 places and every price put so far is legal.
-use Rattle.std.proofs.Common.{◌≡◌, ℕ, zero, suc, ◌+◌, ◌/◌, ◌<◌, ◌≤◌, Bool, true, false, cond, not, ◌||◌, eqb, List, [], ◌∷◌, length, set, replicate, ℤ, is_some, is_ok, Some, None, Ok, Err, Decides, Option, Result, sym, refl, ap, ◌∙◌, subst, arith}
-use Rattle.std.specs.Result.{result_map_both}
+use Rattle.std.proofs.Common.{◌≡◌, ℕ, zero, suc, ◌+◌, ◌/◌, ◌<◌, ◌≤◌, Bool, true, false, cond, not, ◌||◌, eqb, List, [], ◌∷◌, length, set, replicate, ℤ, is_some, is_ok, Some, None, Ok, Err, Decides, Option, Result, if◌then◌else◌, sym, refl, ap, ◌∙◌, subst, arith}
+use Rattle.std.specs.Option.{option_map}
+use Rattle.std.specs.Result.{result_err, result_map_both}
 use Rattle.std.proofs.lemmas.List.{length-set, length-take, length-drop, nil_from_length}
 use Rattle.std.proofs.lemmas.Bool.{and_parts, and_from, eq-eqb, ne_eqb, true≢false, false≢true}
 use Rattle.std.proofs.lemmas.Bool.Decides.{nat_tests}
@@ -10,11 +11,12 @@ use Rattle.amount.specs.Records.{length_of_record}
 use Rattle.digraph.specs.Links.{Slots}
 use Rattle.digraph.specs.Trees.{SpanningTree}
 use Rattle.digraph.specs.declared.link.Link.{Link}
-use Rattle.refusal.specs.Checks.{first}
-use Rattle.refusal.specs.Numbers.{number_of}
+use Rattle.refusal.specs.Checks.{first, retold}
+use Rattle.refusal.specs.declared.LinkRefusal.{LinkRefusal}
+use Rattle.refusal.specs.declared.TreeRefusal.{TreeRefusal}
 use Rattle.refusal.specs.declared.Refusal.{Refusal}
 use Rattle.refusal.specs.declared.Refusal.TheVariants.{ColumnSize, FileRecord, FileTree}
-use Rattle.refusal.proofs.Firsts.{first_of_back}
+use Rattle.refusal.proofs.Firsts.{first_of_back, first_retold}
 use Rattle.sheet.specs.Calls.{priced, column_checks, link_checks, tree_checks}
 use Rattle.sheet.specs.Held.{Held, opened, with_link, with_tree}
 use Rattle.sheet.proofs.Columns.{passed_link_is_numbered}
@@ -47,10 +49,10 @@ column_passes h ps size legal_all = grind (arith, nat_tests)
 module _ (place : ℕ) (ps : List (List ℤ)) where
   -- what adding a record comes to, by what the link's own checks say
   step_by_checks
-      : (o : Option Refusal) (h : Held) (e : Entry) (es : List Entry)
+      : (o : Option LinkRefusal) (h : Held) (e : Entry) (es : List Entry)
       → (o ≡ None → adding (place + 1) (with_column (with_link h e.number (Some (link_of e))) (set ps e.number e.price)) es ≡ result_map_both (λ x. with_column x (writing (set ps e.number e.price) es)) (λ r. r) (placing (place + 1) (with_link h e.number (Some (link_of e))) es))
-      → unless_refused o (λ r. FileRecord place (number_of r)) (adding (place + 1) (with_column (with_link h e.number (Some (link_of e))) (set ps e.number e.price)) es)
-      ≡ result_map_both (λ x. with_column x (writing ps (e ∷ es))) (λ r. r) (unless_refused o (λ r. FileRecord place (number_of r)) (placing (place + 1) (with_link h e.number (Some (link_of e))) es))
+      → unless_refused (option_map (FileRecord place) o) (λ r. r) (adding (place + 1) (with_column (with_link h e.number (Some (link_of e))) (set ps e.number e.price)) es)
+      ≡ result_map_both (λ x. with_column x (writing ps (e ∷ es))) (λ r. r) (unless_refused o (FileRecord place) (placing (place + 1) (with_link h e.number (Some (link_of e))) es))
   step_by_checks None h e es go = go refl
   step_by_checks (Some why) h e es go = refl
 
@@ -62,8 +64,8 @@ pub adding_is_placing_and_writing
 adding_is_placing_and_writing [] place h ps size legal_all = refl
 adding_is_placing_and_writing (e ∷ es) place h ps size legal_all =
     let checks = link_checks h e.number e.tail e.head e.price in
-    ap (λ o. unless_refused o (λ r. FileRecord place (number_of r)) (adding (place + 1) (with_column (with_link h e.number (Some (link_of e))) (set ps e.number e.price)) es))
-    (first_of_back (column_checks h ps) checks (column_passes h ps size legal_all))
+    ap (λ o. unless_refused o (λ r. r) (adding (place + 1) (with_column (with_link h e.number (Some (link_of e))) (set ps e.number e.price)) es))
+    (first_of_back (column_checks h ps) (retold (FileRecord place) checks) (column_passes h ps size legal_all) ∙ first_retold (FileRecord place) checks)
     ∙ step_by_checks place ps (first checks) h e es
     (λ passed. adding_is_placing_and_writing es (place + 1) (with_link h e.number (Some (link_of e))) (set ps e.number e.price) (length-set ps e.number e.price ∙ size)
     (priced_with_link h.links ps e.number (link_of e) e.price legal_all (passed_link_is_legal h e.number e.tail e.head e.price passed)))
@@ -79,7 +81,7 @@ refused_is_not_ok : {A : Type 0} {x : A} {e : Refusal} → Err e ≡ Ok x → �
 refused_is_not_ok p = let z : ◌≡◌ {A = ℕ} 0 1 = cc in omega arith
 
 -- a record that was placed passed its checks, and so did the rest
-accepted : (o : Option Refusal) (told : Refusal → Refusal) (rest : Result Held Refusal) (after : Held) → unless_refused o told rest ≡ Ok after → (o ≡ None) × (rest ≡ Ok after)
+accepted : {E : Type 0} (o : Option E) (told : E → Refusal) (rest : Result Held Refusal) (after : Held) → unless_refused o told rest ≡ Ok after → (o ≡ None) × (rest ≡ Ok after)
 accepted None told rest after p = (refl, p)
 accepted (Some e) told rest after p = absurd (refused_is_not_ok p)
 
@@ -93,7 +95,7 @@ placed [] place h after ps p =
       legal_all = λ e. ap (λ x. priced x.links ps) (sym same) ∙ e;
     }
 placed (e ∷ es) place h after ps p =
-    let parts = accepted (first (link_checks h e.number e.tail e.head e.price)) (λ r. FileRecord place (number_of r)) (placing (place + 1) (with_link h e.number (Some (link_of e))) es) after p in
+    let parts = accepted (first (link_checks h e.number e.tail e.head e.price)) (FileRecord place) (placing (place + 1) (with_link h e.number (Some (link_of e))) es) after p in
     let rest = placed es (place + 1) (with_link h e.number (Some (link_of e))) after (set ps e.number e.price) parts.1 in
     record {
       same_stations = rest.same_stations;
@@ -107,22 +109,22 @@ pub placed_is_numbered : (w : ℕ) (bs : List ℕ) (start n place : ℕ) (h afte
 placed_is_numbered w bs start zero place h after p i l = omega arith
 placed_is_numbered w bs start (suc n) place h after p zero l =
     let e = entry_at w bs start in
-    let parts = accepted (first (link_checks h e.number e.tail e.head e.price)) (λ r. FileRecord place (number_of r)) (placing (place + 1) (with_link h e.number (Some (link_of e))) (entries_from w bs (start + 1) n)) after p in
+    let parts = accepted (first (link_checks h e.number e.tail e.head e.price)) (FileRecord place) (placing (place + 1) (with_link h e.number (Some (link_of e))) (entries_from w bs (start + 1) n)) after p in
     subst (λ x. (entry_at w bs x).number < 200) (let z : start ≡ start + 0 = omega arith in z) (passed_link_is_numbered h e.number e.tail e.head e.price parts.0)
 placed_is_numbered w bs start (suc n) place h after p (suc i) l =
     let e = entry_at w bs start in
-    let parts = accepted (first (link_checks h e.number e.tail e.head e.price)) (λ r. FileRecord place (number_of r)) (placing (place + 1) (with_link h e.number (Some (link_of e))) (entries_from w bs (start + 1) n)) after p in
+    let parts = accepted (first (link_checks h e.number e.tail e.head e.price)) (FileRecord place) (placing (place + 1) (with_link h e.number (Some (link_of e))) (entries_from w bs (start + 1) n)) after p in
     subst (λ x. (entry_at w bs x).number < 200) (let z : start + 1 + i ≡ start + suc i = omega arith in z) (placed_is_numbered w bs (start + 1) n (place + 1) (with_link h e.number (Some (link_of e))) after parts.1 i (omega arith))
 
 -- installing and planting differ in the column's checks, which pass
 planted : (h : Held) (ps : List (List ℤ)) (tree : List ℕ) (spans : Bool) → length ps ≡ 200 → priced h.links ps ≡ true → installing (with_column h ps) tree spans ≡ result_map_both (λ x. with_column x ps) (λ r. r) (planting h tree spans)
 planted h ps [] spans size all = refl
 planted h ps (k ∷ ks) spans size all =
-    ap (λ o. unless_refused o (λ r. FileTree (number_of r)) (Ok (with_column (with_tree h (k ∷ ks)) ps)))
-    (first_of_back (column_checks h ps) (tree_checks h (k ∷ ks) spans) (column_passes h ps size all))
+    ap (λ o. unless_refused o (λ r. r) (Ok (with_column (with_tree h (k ∷ ks)) ps)))
+    (first_of_back (column_checks h ps) (retold FileTree (tree_checks h (k ∷ ks) spans)) (column_passes h ps size all) ∙ first_retold FileTree (tree_checks h (k ∷ ks) spans))
     ∙ by_checks (first (tree_checks h (k ∷ ks) spans))
   where
-    by_checks : (o : Option Refusal) → unless_refused o (λ r. FileTree (number_of r)) (Ok (with_column (with_tree h (k ∷ ks)) ps)) ≡ result_map_both (λ x. with_column x ps) (λ r. r) (unless_refused o (λ r. FileTree (number_of r)) (Ok (with_tree h (k ∷ ks))))
+    by_checks : (o : Option TreeRefusal) → unless_refused (option_map FileTree o) (λ r. r) (Ok (with_column (with_tree h (k ∷ ks)) ps)) ≡ result_map_both (λ x. with_column x ps) (λ r. r) (unless_refused o FileTree (Ok (with_tree h (k ∷ ks))))
     by_checks None = refl
     by_checks (Some e) = refl
 
@@ -176,17 +178,16 @@ module _ (n : ℕ) (es : List Entry) (tree : List ℕ) (spans : Bool) where
     pub no_tree_to_plant : length tree ≡ 0 → Ok h ≡ sheet_from n es tree spans
     no_tree_to_plant e = up_to_tree (Ok h) (sym (ap (λ t. planting h t spans) (nil_from_length tree e)))
 
-    planting_some : (t : List ℕ) → (length t ≡ 0 → ⊥) → planting h t spans ≡ unless_refused (first (tree_checks h t spans)) (λ r. FileTree (number_of r)) (Ok (with_tree h t))
+    planting_some : (t : List ℕ) → (length t ≡ 0 → ⊥) → planting h t spans ≡ unless_refused (first (tree_checks h t spans)) FileTree (Ok (with_tree h t))
     planting_some [] some = absurd (some refl)
     planting_some (k ∷ ks) some = refl
 
-    pub tree_planted : (after : Held) → (length tree ≡ 0 → ⊥) → None ≡ first (tree_checks h tree spans) → after ≡ with_tree h tree → Ok after ≡ sheet_from n es tree spans
-    tree_planted after some passed made =
-        up_to_tree (Ok after) (ap Ok made ∙ ap (λ o. unless_refused o (λ r. FileTree (number_of r)) (Ok (with_tree h tree))) passed ∙ sym (planting_some tree some))
-
-    pub tree_refused : (why : Refusal) → (length tree ≡ 0 → ⊥) → Some why ≡ first (tree_checks h tree spans) → Err (FileTree (number_of why)) ≡ sheet_from n es tree spans
-    tree_refused why some refused =
-        up_to_tree (Err (FileTree (number_of why))) (ap (λ o. unless_refused o (λ r. FileTree (number_of r)) (Ok (with_tree h tree))) refused ∙ sym (planting_some tree some))
+    -- by what planting the tree answered, and what the sheet then held
+    pub tree_decides : (r : Result (Unit {0}) TreeRefusal) (after : Held) → (length tree ≡ 0 → ⊥) → result_err r ≡ first (tree_checks h tree spans) → after ≡ (if is_ok r then with_tree h tree else h) → result_map_both (λ _. after) FileTree r ≡ sheet_from n es tree spans
+    tree_decides (Ok x) after some passed made =
+        up_to_tree (Ok after) (ap Ok made ∙ ap (λ o. unless_refused o FileTree (Ok (with_tree h tree))) passed ∙ sym (planting_some tree some))
+    tree_decides (Err why) after some refused made =
+        up_to_tree (Err (FileTree why)) (ap (λ o. unless_refused o FileTree (Ok (with_tree h tree))) refused ∙ sym (planting_some tree some))
 
 -- from the view of a file to what loading it comes to
 wrong_column : (w kind : ℕ) (file : List ℕ) (ps : List (List ℤ)) (b : Bool) → b ≡ false → (rest : Result Priced Refusal) → unless_refused (cond (not b) (Some ColumnSize) (first (file_checks w kind file))) (λ r. r) rest ≡ Err ColumnSize
@@ -208,9 +209,6 @@ module _ (w kind : ℕ) (file : List ℕ) (passed : None ≡ first (file_checks 
     (n_is : n ≡ stations_of file) (bs_are : bs ≡ bytes_of file (records_section file)) (tree_is : tree ≡ tree_numbers file) where
   whole : Whole file
   whole = passed_file_is_whole w kind file (sym passed)
-
-  pub stations_fit : (2 ≤ n) × (n ≤ 40)
-  stations_fit = (omega (arith, n_is, whole.some), omega (arith, n_is, whole.few))
 
   pub records_fit : length bs ≤ 4096
   records_fit = omega (arith, ap length bs_are, length_of_section file whole, whole.inside, whole.short)

@@ -4,6 +4,7 @@
 use Rattle.std.specs.Prelude.{ℕ, zero, suc, ◌+◌, ◌-◌, ◌*◌, ◌/◌, ◌%◌, Bool, not, ◌&&◌, ◌||◌, List, [], ◌∷◌, length, take, drop, ℤ, ◌==◌, nat_lt, slice_index}
 use Rattle.amount.specs.Records.{length_of_record, word, price_at}
 use Rattle.refusal.specs.Checks.{Check, ◌refuses_with◌}
+use Rattle.refusal.specs.declared.Refusal.{Refusal}
 use Rattle.refusal.specs.declared.Refusal.TheVariants.{StationCount, FileSize, FileKind, FilePair, FileSection}
 
 -- two bytes as a number
@@ -43,7 +44,7 @@ bad_pair file earliest s = nat_lt s.start earliest || nat_lt (length file) (end_
 
 -- what turns a file back before its records are looked at, for a kind of amount with so many parts
 -- and this byte
-abbrev pub file_checks : ℕ → ℕ → List ℕ → List Check
+abbrev pub file_checks : ℕ → ℕ → List ℕ → List (Check Refusal)
 file_checks width kind file =
     ((nat_lt (length file) 20 || nat_lt 4096 (length file)) refuses_with FileSize) ∷
     ((not (slice_index file 0 == kind) || not (half (drop 2 file) == 2)) refuses_with FileKind) ∷

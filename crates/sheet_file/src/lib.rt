@@ -5,5 +5,4 @@ pub mod entry;
 pub mod load;
 pub mod records;
 pub mod section;
-pub mod tree_bytes;
 pub mod view;

@@ -28,10 +28,9 @@ pub const TREE: usize = 41;
 /// The sample with other bytes at some places.
 pub fn changed(changes: &[(usize, u8)]) -> [u8; 43] {
     let mut file = SAMPLE;
-    for change in changes {
-        let (at, byte) = *change;
-        if at < file.len() {
-            file[at] = byte;
+    for (at, byte) in changes {
+        if let Some(place) = file.get_mut(*at) {
+            *place = *byte;
         }
     }
     file
@@ -39,28 +38,26 @@ pub fn changed(changes: &[(usize, u8)]) -> [u8; 43] {
 
 /// A refusal's number and what it carries, the place of a record and the number of a call; 0 for each
 /// that there is not.
+// Numbers and no cases: the documents promise the numbers.
 pub fn told(answer: Result<(), Refusal>) -> (u8, u16, u8) {
     match answer {
         Ok(()) => (0, 0, 0),
-        Err(Refusal::FileRecord(place, number)) => (34, place, number),
-        Err(Refusal::FileTree(number)) => (35, 0, number),
+        Err(Refusal::FileRecord(place, why)) => (34, place, Refusal::from(why).number()),
+        Err(Refusal::FileTree(why)) => (35, 0, Refusal::from(why).number()),
         Err(why) => (why.number(), 0, 0),
     }
 }
 
 /// What loading a file of cents into a new sheet tells.
 pub fn loading_cents(file: &[u8]) -> (u8, u16, u8) {
-    told(load(&mut Sheet::new(), &mut [Cents { cents: 0 }; LINKS], file))
+    told(load(&mut Sheet::new(), &mut [Cents::default(); LINKS], file))
 }
 
 /// What loading a file of cents and minutes into a new sheet tells.
 pub fn loading_minutes(file: &[u8]) -> (u8, u16, u8) {
     told(load(
         &mut Sheet::new(),
-        &mut [CentsMinutes {
-            cents: 0,
-            minutes: 0,
-        }; LINKS],
+        &mut [CentsMinutes::default(); LINKS],
         file,
     ))
 }
@@ -72,19 +69,13 @@ pub fn loading_changed(changes: &[(usize, u8)]) -> (u8, u16, u8) {
 
 /// Whether the sheet has this link.
 pub fn has_link(sheet: &Sheet, number: u16, tail: u8, head: u8) -> bool {
-    match sheet.link(number) {
-        Some(link) => link.tail == tail && link.head == head,
-        None => false,
-    }
+    sheet
+        .link(number)
+        .is_some_and(|link| link.tail == tail && link.head == head)
 }
 
 /// Whether the sheet has the sample's stations, links and tree, and no more.
 pub fn is_sample(sheet: &Sheet) -> bool {
-    for number in 3..200u16 {
-        if sheet.link(number).is_some() || sheet.in_tree(number) {
-            return false;
-        }
-    }
     sheet.stations() == 3
         && has_link(sheet, 0, 0, 1)
         && has_link(sheet, 1, 0, 2)
@@ -92,4 +83,5 @@ pub fn is_sample(sheet: &Sheet) -> bool {
         && sheet.in_tree(0)
         && !sheet.in_tree(1)
         && sheet.in_tree(2)
+        && (3..200).all(|number| sheet.link(number).is_none() && !sheet.in_tree(number))
 }

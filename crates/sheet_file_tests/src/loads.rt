@@ -4,6 +4,7 @@ use crate::files::{
 };
 use amount::cents::Cents;
 use amount::cents_minutes::CentsMinutes;
+use digraph::link::Link;
 use digraph::table::LINKS;
 use sheet::Sheet;
 use sheet_file::load::load;
@@ -12,14 +13,15 @@ use std::process::Abort;
 /// What a column holds before a load.
 const BEFORE: Cents = Cents { cents: -77 };
 
+fn both(cents: i64, minutes: i64) -> CentsMinutes {
+    CentsMinutes { cents, minutes }
+}
+
 /// Whether a column holds the sample's prices, and elsewhere what it held before.
 fn are_sample_prices(prices: &[Cents]) -> bool {
-    for k in 3..prices.len() {
-        if prices[k].cents != BEFORE.cents {
-            return false;
-        }
-    }
-    prices.len() == 200 && prices[0].cents == 5 && prices[1].cents == 4 && prices[2].cents == 6
+    prices.len() == 200
+        && prices.starts_with(&[5, 4, 6].map(|cents| Cents { cents }))
+        && prices[3..].iter().all(|price| *price == BEFORE)
 }
 
 #[test]
@@ -36,15 +38,25 @@ fn a_load_replaces_the_sheet_and_keeps_the_column(rt: HostRuntime) {
     let mut prices = [BEFORE; LINKS];
     assert_eq!(rt; told(sheet.open(5)), (0, 0, 0));
     assert_eq!(rt;
-        told(sheet.add(&mut prices, 1, 3, 4, Cents { cents: 9 })),
+        told(sheet.add(
+            &mut prices,
+            1,
+            Link { tail: 3, head: 4 },
+            Cents { cents: 9 }
+        )),
         (0, 0, 0)
     );
     assert_eq!(rt;
-        told(sheet.add(&mut prices, 7, 3, 4, Cents { cents: 8 })),
+        told(sheet.add(
+            &mut prices,
+            7,
+            Link { tail: 3, head: 4 },
+            Cents { cents: 8 }
+        )),
         (0, 0, 0)
     );
     assert_eq!(rt; told(load(&mut sheet, &mut prices, &SAMPLE)), (0, 0, 0));
-    assert!(rt; is_sample(&sheet) && prices[7].cents == 8);
+    assert!(rt; is_sample(&sheet) && prices[7] == Cents { cents: 8 });
     prices[7] = BEFORE;
     assert!(rt; are_sample_prices(&prices));
 }
@@ -108,10 +120,7 @@ fn a_file_of_cents_and_minutes_loads(rt: HostRuntime) {
         \xc7\x01\x02\x00\x00\x00\x00\x07\x00\x00\x00\
         \x08\xc7";
     let mut sheet = Sheet::new();
-    let mut prices = [CentsMinutes {
-        cents: 1,
-        minutes: 1,
-    }; LINKS];
+    let mut prices = [both(1, 1); LINKS];
     assert_eq!(rt; told(load(&mut sheet, &mut prices, file)), (0, 0, 0));
     assert!(rt;
         has_link(&sheet, 8, 0, 1)
@@ -119,13 +128,9 @@ fn a_file_of_cents_and_minutes_loads(rt: HostRuntime) {
             && sheet.in_tree(8)
             && sheet.in_tree(199)
     );
-    assert!(rt;
-        prices[8].cents == 5
-            && prices[8].minutes == -3
-            && prices[199].cents == 0
-            && prices[199].minutes == 7
-    );
-    assert!(rt; prices[0].cents == 1 && prices[0].minutes == 1);
+    assert_eq!(rt; prices[8], both(5, -3));
+    assert_eq!(rt; prices[199], both(0, 7));
+    assert_eq!(rt; prices[0], both(1, 1));
 }
 
 #[test]

@@ -10,7 +10,7 @@ fn head_and_sections(rt: HostRuntime) {
     assert_eq!(rt;
         told(load(
             &mut Sheet::new(),
-            &mut [Cents { cents: 0 }; 199],
+            &mut [Cents::default(); 199],
             &short[0..19],
         )),
         (1, 0, 0)

@@ -10,11 +10,11 @@ use std::test::Fail;
 #[test]
 fn a_column_of_another_size(rt: HostRuntime) {
     assert_eq!(rt;
-        told(load(&mut Sheet::new(), &mut [Cents { cents: 0 }; 199], &SAMPLE)),
+        told(load(&mut Sheet::new(), &mut [Cents::default(); 199], &SAMPLE)),
         (1, 0, 0)
     );
     assert_eq!(rt;
-        told(load(&mut Sheet::new(), &mut [Cents { cents: 0 }; 201], &SAMPLE)),
+        told(load(&mut Sheet::new(), &mut [Cents::default(); 201], &SAMPLE)),
         (1, 0, 0)
     );
 }

@@ -13,81 +13,53 @@ pub fn cents(cents: i64) -> Cents {
     Cents { cents }
 }
 
-/// Checks that a call was not refused.
-pub fn passed(answer: Result<(), Refusal>) -> Result<(), Fail> {
-    match answer {
-        Ok(()) => Ok(()),
-        Err(refusal) => Err(Fail::new(format_args!("refused with {}", refusal.number()))),
-    }
+pub fn link(tail: u8, head: u8) -> Link {
+    Link { tail, head }
 }
 
 /// Checks that a call was refused with this number.
-pub fn refused(rt: &impl Abort, answer: Result<(), Refusal>, number: u8) -> Result<(), Fail> {
-    match answer {
-        Ok(()) => Err(Fail::new(format_args!("not refused with {number}"))),
-        Err(refusal) => {
-            assert_eq!(rt; refusal.number(), number);
-            Ok(())
-        },
-    }
+// A number and no case: the documents promise the numbers.
+pub fn refused(rt: &impl Abort, answer: Result<(), Refusal>, number: u8) {
+    assert_eq!(rt; answer.map_err(|refusal| refusal.number()), Err(number));
 }
 
 /// A link's tail and head.
 pub fn ends(link: Option<Link>) -> Option<(u8, u8)> {
-    match link {
-        None => None,
-        Some(Link { tail, head }) => Some((tail, head)),
-    }
+    link.map(|link| (link.tail, link.head))
 }
 
 /// Three stations with the links 0 from the base to 1, 1 from 1 to 2 and 2 from the base to 2, at 10
 /// cents each, and no tree.
 pub fn triangle(prices: &mut [Cents]) -> Result<Sheet, Fail> {
     let mut sheet = Sheet::new();
-    passed(sheet.open(3))?;
-    passed(sheet.add(prices, 0, 0, 1, cents(10)))?;
-    passed(sheet.add(prices, 1, 1, 2, cents(10)))?;
-    passed(sheet.add(prices, 2, 0, 2, cents(10)))?;
+    sheet.open(3)?;
+    sheet.add(prices, 0, link(0, 1), cents(10))?;
+    sheet.add(prices, 1, link(1, 2), cents(10))?;
+    sheet.add(prices, 2, link(0, 2), cents(10))?;
     Ok(sheet)
 }
 
 /// Forty stations with a link `s` from station `s` to the next, at 1 cent, for each `s` below `links`.
 pub fn chain(prices: &mut [Cents], links: u8) -> Result<Sheet, Fail> {
     let mut sheet = Sheet::new();
-    passed(sheet.open(40))?;
+    sheet.open(40)?;
     for s in 0..links {
-        passed(sheet.add(prices, u16::from(s), s, s + 1, cents(1)))?;
+        sheet.add(prices, u16::from(s), link(s, s + 1), cents(1))?;
     }
     Ok(sheet)
 }
 
 /// How many numbers name a link.
-pub fn links_on(sheet: &Sheet) -> u16 {
-    let mut links: u16 = 0;
-    for number in 0..200 {
-        if sheet.link(number).is_some() {
-            links = links.saturating_add(1);
-        }
-    }
-    links
+pub fn links_on(sheet: &Sheet) -> usize {
+    (0..200)
+        .filter(|number| sheet.link(*number).is_some())
+        .count()
 }
 
 /// Whether two sheets answer every question alike.
+// By the questions and not by `==`: the questions are what is tested.
 pub fn are_alike(a: &Sheet, b: &Sheet) -> bool {
-    for number in 0..200 {
-        if ends(a.link(number)) != ends(b.link(number)) || a.in_tree(number) != b.in_tree(number) {
-            return false;
-        }
-    }
-    a.stations() == b.stations() && a.has_tree() == b.has_tree()
-}
-
-/// Whether two columns have the same prices.
-pub fn are_equal(a: &[Cents; 200], b: &[Cents; 200]) -> bool {
-    for k in 0..200 {
-        if a[k].cents != b[k].cents {
-            return false;
-        }
-    }
-    true
+    a.stations() == b.stations()
+        && a.has_tree() == b.has_tree()
+        && (0..200).all(|k| ends(a.link(k)) == ends(b.link(k)) && a.in_tree(k) == b.in_tree(k))
 }

@@ -4,6 +4,9 @@
 ghost use Rattle.std.specs.Prelude.{◌≡◌, ◌<◌};
 ghost use Rattle.stations.specs.Sets.{has};
 
+pub mod count;
+pub mod rising;
+
 /// Whether `station` is in `set`.
 pub fn holds(set: u64, station: u8) -> bool
     requires { station < 64 }

@@ -1,2 +1,4 @@
+pub mod Depths
 pub mod Mosts
 pub mod Pathways
+pub mod Serving

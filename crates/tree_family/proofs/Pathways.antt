@@ -17,7 +17,7 @@ use Rattle.cuts.proofs.TwoTables.{reaches→path, path→reaches, reached→path
 use Rattle.tree_shape.specs.Trees.{tree_of, parent_of}
 use Rattle.tree_shape.proofs.Planted.{planted_tree}
 use Rattle.tree_family.specs.Choices.{beside, around, remaining}
-use Rattle.tree_family.specs.Meanings.{Step, Below, Asked}
+use Rattle.tree_family.specs.Meanings.{StepBeside, Below, Asked}
 use Rattle.tree_family.specs.MarkedSteps.{marked_steps_sized}
 use Rattle.tree_family.specs.Remaining.{closed, reach_small, in_outside, outside_in_reach, left_below, remaining_is}
 use Rattle.tree_family.specs.Searched.{asked_proper, steps_inside, step→forth, base, around_reaches, base_reaches}
@@ -26,7 +26,7 @@ module _ (t h : Held) (marks : List ℕ) (v : ℕ) (asked : Asked t h v) where
   tree : SpanningTree t.stations t.links (tree_of t)
   tree = planted_tree t asked.own asked.planted
 
-  pub around_by_paths : (u : ℕ) → Decides (has (around t (marked_steps Back h.links marks) v) u) (Path (Step t h marks v) u v)
+  pub around_by_paths : (u : ℕ) → Decides (has (around t (marked_steps Back h.links marks) v) u) (Path (StepBeside t h marks v) u v)
   around_by_paths u =
       let (i, within, leads) = parent_leads t.stations t.links (tree_of t) tree v asked.not_base asked.station in
       let set = around t (marked_steps Back h.links marks) v in
@@ -43,7 +43,7 @@ module _ (t h : Held) (marks : List ℕ) (v : ℕ) (asked : Asked t h v) where
   R = reach_set (beside Forth t steps v) 0
 
   -- the base reaches by paths alone
-  path_from_base : (w : ℕ) → In R w → Path (Step t h marks v) 0 w
+  path_from_base : (w : ℕ) → In R w → Path (StepBeside t h marks v) 0 w
   path_from_base w at =
       let (i, within, leads) = parent_leads t.stations t.links (tree_of t) tree v asked.not_base asked.station in
       reached→path t.stations h.links t.links (tree_of t) (marked marks) (asked_proper t h asked.own tree asked.other asked.right marks) asked.own.proper tree
@@ -63,7 +63,7 @@ module _ (t h : Held) (marks : List ℕ) (v : ℕ) (asked : Asked t h v) where
         In-subtree→below t.stations t.links (tree_of t) tree v w
         (left_below t asked.own tree steps (marked_steps_sized Forth h marks) (steps_inside t h asked.own tree asked.other asked.right marks Forth) v asked.not_base asked.station w at)
 
-    no_path : In (2 ^ t.stations - 1 - R) w → (u : ℕ) → u < t.stations → (Below t u v → ⊥) → Path (Step t h marks v) u w → ⊥
+    no_path : In (2 ^ t.stations - 1 - R) w → (u : ℕ) → u < t.stations → (Below t u v → ⊥) → Path (StepBeside t h marks v) u w → ⊥
     no_path at u station out path =
         let sized = marked_steps_sized Forth h marks in
         let inside = steps_inside t h asked.own tree asked.other asked.right marks Forth in
@@ -73,14 +73,14 @@ module _ (t h : Held) (marks : List ℕ) (v : ℕ) (asked : Asked t h v) where
         (path_by_other_steps (step→forth t h asked.own tree asked.other asked.right marks v) path) in
         omega (arith, digit_not t.stations R w left low)
 
-    remains : ((u : ℕ) → u < t.stations → (Below t u v → ⊥) → Path (Step t h marks v) u w → ⊥) → In (2 ^ t.stations - 1 - R) w
+    remains : ((u : ℕ) → u < t.stations → (Below t u v → ⊥) → Path (StepBeside t h marks v) u w → ⊥) → In (2 ^ t.stations - 1 - R) w
     remains none =
         ⊎_elim
         (λ at. absurd (none 0 (base t h asked.own tree asked.other asked.right marks) (λ (j, e). omega (arith, climb_from_base t.stations t.links (tree_of t) tree j, asked.not_base)) (path_from_base w at)))
         (λ out. omega (arith, digit_not t.stations R w left low)) (in_or_out R w)
 
     pub remaining_by_paths : Decides (has (remaining t (marked_steps Forth h.links marks) v) w)
-        (Below t w v × ((u : ℕ) → u < t.stations → (Below t u v → ⊥) → Path (Step t h marks v) u w → ⊥))
+        (Below t w v × ((u : ℕ) → u < t.stations → (Below t u v → ⊥) → Path (StepBeside t h marks v) u w → ⊥))
     remaining_by_paths = (
       λ held. let at = subst (λ (x : ℕ). In x w) (sym is) (has→In (remaining t steps v) w held) in (below at, no_path at),
       λ (under, none). In→has (remaining t steps v) w (subst (λ (x : ℕ). In x w) is (remains none)),

@@ -31,6 +31,10 @@ abbrev pub first_around : Held → List ℕ → List ℕ → Option ℕ
 first_around t marked [] = None
 first_around t marked (v ∷ vs) = let set = around t marked v in cond (has set 0) (first_around t marked vs) (Some set)
 
+-- of the sets around the stations of depth d the first without the base, lowest station first
+unfoldable pub first_at_depth : Held → List ℕ → ℕ → Option ℕ
+first_at_depth t marked d = first_around t marked (rising (level t d))
+
 -- the stations of depth d and less, but the base: deepest first, lowest first among equals
 abbrev pub deepest_first : Held → ℕ → List ℕ
 deepest_first t zero = []

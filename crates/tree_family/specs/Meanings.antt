@@ -12,8 +12,8 @@ use Rattle.tree_shape.specs.Trees.{tree_of}
 use Rattle.tree_family.specs.Choices.{around, remaining}
 
 -- a marked link, or a tree link other than the one into v, leads from a to b
-abbrev pub Step : Held → Held → List ℕ → ℕ → ℕ → ℕ → Type 0
-Step t h marks v a b = MarkedStep h.links marks a b ⊎ ((b ≢ v) × Along t.links (tree_of t) a b)
+abbrev pub StepBeside : Held → Held → List ℕ → ℕ → ℕ → ℕ → Type 0
+StepBeside t h marks v a b = MarkedStep h.links marks a b ⊎ ((b ≢ v) × Along t.links (tree_of t) a b)
 
 -- station w is below v or at v
 abbrev pub Below : Held → ℕ → ℕ → Type 0
@@ -32,11 +32,11 @@ pub record Asked (t h : Held) (v : ℕ) : Type 0 where
 abbrev pub AroundReach : Type 0
 AroundReach =
     (t h : Held) (marks : List ℕ) (v u : ℕ) → Asked t h v
-    → Decides (has (around t (marked_steps Back h.links marks) v) u) (Path (Step t h marks v) u v)
+    → Decides (has (around t (marked_steps Back h.links marks) v) u) (Path (StepBeside t h marks v) u v)
 
 -- a station remains below v exactly if it is below or at v and no path of such steps leads to it from a station that is not
 abbrev pub RemainingBelow : Type 0
 RemainingBelow =
     (t h : Held) (marks : List ℕ) (v w : ℕ) → Asked t h v → w < t.stations
     → Decides (has (remaining t (marked_steps Forth h.links marks) v) w)
-    (Below t w v × ((u : ℕ) → u < t.stations → (Below t u v → ⊥) → Path (Step t h marks v) u w → ⊥))
+    (Below t w v × ((u : ℕ) → u < t.stations → (Below t u v → ⊥) → Path (StepBeside t h marks v) u w → ⊥))

@@ -18,10 +18,11 @@ use Rattle.family.specs.Marking.{next_is_way, way_is_next}
 use Rattle.cuts.specs.Families.{besides}
 use Rattle.cuts.specs.Reaching.{ReachesTo, ReachedFrom}
 use Rattle.cuts.proofs.Parents.{parent_leads, parent_unique}
-use Rattle.cuts.proofs.TwoTables.{BesideStep, joined, behind, within_first, searched_back, searched_on, rest_has_head}
+use Rattle.cuts.proofs.TwoTables.{joined, behind, within_first, searched_back, searched_on, rest_has_head}
 use Rattle.tree_family.specs.Choices.{Inside, beside, around}
 use Rattle.tree_shape.specs.Trees.{tree_of, parent_of}
 use Rattle.tree_family.specs.Besides.{OtherLink, beside→either, either→beside, beside_low}
+use Rattle.tree_family.specs.Meanings.{StepBeside}
 use Rattle.tree_family.specs.MarkedSteps.{marked_steps_sized, marked_steps_inside}
 
 module _ (t h : Held) (sound : Sound t) (tree : SpanningTree t.stations t.links (tree_of t)) (asked : Sound h) (right : h.stations ≡ t.stations) (marks : List ℕ) where
@@ -55,32 +56,28 @@ module _ (t h : Held) (sound : Sound t) (tree : SpanningTree t.stations t.links 
       positive : (x : ℕ) → (x ≡ 0 → ⊥) → 0 < x
       positive x ne = omega arith
 
-  -- a step beside the tree link into v
-  abbrev pub Step : ℕ → ℕ → ℕ → Type 0
-  Step v a b = BesideStep h.links (marked marks) t.links (tree_of t) v a b
-
-  step→back : (v a b : ℕ) → Step v a b → Next (beside Back t (steps Back) v) b a
+  step→back : (v a b : ℕ) → StepBeside t h marks v a b → Next (beside Back t (steps Back) v) b a
   step→back v a b s = either→beside t sound tree Back v (steps Back) (marked_steps_sized Back h marks) b a (go s)
     where
-      go : Step v a b → Next (steps Back) b a ⊎ OtherLink t v a b
-      go (inl m) = inl (way_is_next h.stations h.links asked.proper asked.few asked.sized marks Back b a m)
+      go : StepBeside t h marks v a b → Next (steps Back) b a ⊎ OtherLink t v a b
+      go (inl m) = inl (way_is_next h asked marks Back b a m)
       go (inr (ne, along)) = inr (along→other v a b ne along)
 
-  back→step : (v a b : ℕ) → Next (beside Back t (steps Back) v) b a → Step v a b
+  back→step : (v a b : ℕ) → Next (beside Back t (steps Back) v) b a → StepBeside t h marks v a b
   back→step v a b next =
-      ⊎_elim (λ m. inl (next_is_way h.stations h.links asked.proper asked.few asked.sized marks Back b a m)) (λ o. inr (o.not_it, other→along v a b o))
+      ⊎_elim (λ m. inl (next_is_way h asked marks Back b a m)) (λ o. inr (o.not_it, other→along v a b o))
       (beside→either t sound tree Back v (steps Back) (marked_steps_sized Back h marks) b a next)
 
-  pub step→forth : (v a b : ℕ) → Step v a b → Next (beside Forth t (steps Forth) v) a b
+  pub step→forth : (v a b : ℕ) → StepBeside t h marks v a b → Next (beside Forth t (steps Forth) v) a b
   step→forth v a b s = either→beside t sound tree Forth v (steps Forth) (marked_steps_sized Forth h marks) a b (go s)
     where
-      go : Step v a b → Next (steps Forth) a b ⊎ OtherLink t v a b
-      go (inl m) = inl (way_is_next h.stations h.links asked.proper asked.few asked.sized marks Forth a b m)
+      go : StepBeside t h marks v a b → Next (steps Forth) a b ⊎ OtherLink t v a b
+      go (inl m) = inl (way_is_next h asked marks Forth a b m)
       go (inr (ne, along)) = inr (along→other v a b ne along)
 
-  forth→step : (v a b : ℕ) → Next (beside Forth t (steps Forth) v) a b → Step v a b
+  forth→step : (v a b : ℕ) → Next (beside Forth t (steps Forth) v) a b → StepBeside t h marks v a b
   forth→step v a b next =
-      ⊎_elim (λ m. inl (next_is_way h.stations h.links asked.proper asked.few asked.sized marks Forth a b m)) (λ o. inr (o.not_it, other→along v a b o))
+      ⊎_elim (λ m. inl (next_is_way h asked marks Forth a b m)) (λ o. inr (o.not_it, other→along v a b o))
       (beside→either t sound tree Forth v (steps Forth) (marked_steps_sized Forth h marks) a b next)
 
   low : (way : Direction) (v u : ℕ) → get_or (beside way t (steps way) v) u 0 < 2 ^ 40

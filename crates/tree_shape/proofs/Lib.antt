@@ -1,3 +1,4 @@
 pub mod Climbs
 pub mod Noting
 pub mod Planted
+pub mod Shapes

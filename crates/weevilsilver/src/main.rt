@@ -2,14 +2,16 @@
 //! rising number, and one for the installed tree; or the line of the refusal.
 #![tactic(auto)]
 
-use crate::shown::{Shown, print_sheet};
+use crate::shown::print_sheet;
 use amount::cents::Cents;
 use amount::cents_minutes::CentsMinutes;
+use amount::kind::Amount;
 use annex::refusal_line::write_refusal;
 use digraph::table::LINKS;
 use refusal::Refusal;
 use sheet::Sheet;
 use sheet_file::load::load;
+use std::fmt::Display;
 use std::io::{Read, Write};
 
 mod shown;
@@ -32,7 +34,7 @@ fn print_refusal(rt: &HostRuntime, why: &Refusal) -> anyhow::Result<()> {
 }
 
 /// Loads the file in the column's kind of amount, and prints the sheet or the refusal.
-fn run<T: Shown>(rt: &HostRuntime, file: &[u8], prices: &mut [T]) -> anyhow::Result<()> {
+fn run<T: Amount + Display>(rt: &HostRuntime, file: &[u8], prices: &mut [T]) -> anyhow::Result<()> {
     let mut sheet = Sheet::new();
     match load(&mut sheet, prices, file) {
         Ok(()) => print_sheet(rt, &sheet, prices),
@@ -43,16 +45,9 @@ fn run<T: Shown>(rt: &HostRuntime, file: &[u8], prices: &mut [T]) -> anyhow::Res
 fn main(rt: HostRuntime) -> anyhow::Result<()> {
     let mut file = Vec::new(rt.alloc());
     rt.stdin().take(MOST_BYTES).read_to_end(&mut file)?;
-    if file.first().copied() == Some(2) {
-        run(
-            &rt,
-            &file,
-            &mut [CentsMinutes {
-                cents: 0,
-                minutes: 0,
-            }; LINKS],
-        )
+    if file.first() == Some(&CentsMinutes::KIND) {
+        run(&rt, &file, &mut [CentsMinutes::default(); LINKS])
     } else {
-        run(&rt, &file, &mut [Cents { cents: 0 }; LINKS])
+        run(&rt, &file, &mut [Cents::default(); LINKS])
     }
 }

@@ -1,41 +1,19 @@
 //! A sheet in lines.
-use amount::cents::Cents;
-use amount::cents_minutes::CentsMinutes;
 use amount::kind::Amount;
+use digraph::table::LINKS;
 use sheet::Sheet;
-
-/// A kind of amount that can be printed: cents, and minutes behind a colon.
-pub trait Shown: Amount {
-    fn print(self, rt: &HostRuntime) -> anyhow::Result<()>;
-}
-
-impl Shown for Cents {
-    fn print(self, rt: &HostRuntime) -> anyhow::Result<()> {
-        let cents = self.cents;
-        print!(rt; "{cents}")?;
-        Ok(())
-    }
-}
-
-impl Shown for CentsMinutes {
-    fn print(self, rt: &HostRuntime) -> anyhow::Result<()> {
-        let cents = self.cents;
-        let minutes = self.minutes;
-        print!(rt; "{cents}:{minutes}")?;
-        Ok(())
-    }
-}
+use std::fmt::Display;
 
 /// Prints a sheet: by rising number `link`, number, tail, head and price, and then, if a tree is
 /// installed, `tree` and its numbers rising.
-pub fn print_sheet<T: Shown>(rt: &HostRuntime, sheet: &Sheet, prices: &[T]) -> anyhow::Result<()> {
-    for number in 0..200u16 {
+pub fn print_sheet<T: Amount + Display>(
+    rt: &HostRuntime,
+    sheet: &Sheet,
+    prices: &[T],
+) -> anyhow::Result<()> {
+    for number in 0..LINKS as u16 {
         if let (Some(link), Some(price)) = (sheet.link(number), prices.get(number as usize)) {
-            let tail = link.tail;
-            let head = link.head;
-            print!(rt; "link {number} {tail} {head} ")?;
-            price.print(rt)?;
-            println!(rt; "")?;
+            println!(rt; "link {number} {} {} {price}", link.tail, link.head)?;
         }
     }
     if sheet.has_tree() {
@@ -46,7 +24,7 @@ pub fn print_sheet<T: Shown>(rt: &HostRuntime, sheet: &Sheet, prices: &[T]) -> a
 
 fn print_tree(rt: &HostRuntime, sheet: &Sheet) -> anyhow::Result<()> {
     print!(rt; "tree")?;
-    for number in 0..200u16 {
+    for number in 0..LINKS as u16 {
         if sheet.in_tree(number) {
             print!(rt; " {number}")?;
         }

@@ -1,23 +1,19 @@
-use Rattle.std.proofs.Common.{◌≡◌, ◌+◌, ◌<◌, ◌≤◌, cond, List, map, length, get_or, take, Some, sym, refl, ap, ◌∙◌, arith, rules}
+use Rattle.std.proofs.Common.{◌≡◌, ◌+◌, ◌<◌, ◌≤◌, cond, map, length, get_or, Some, None, sym, refl, ap, ◌∙◌, arith, rules}
 use Rattle.std.proofs.lemmas.List.{length-map}
 use Rattle.sheet.specs.Held.{held}
-use Rattle.sheet.specs.declared.Sheet.{Sheet}
-use Rattle.sheet.proofs.Columns.{get_or-map_read}
-use Rattle.stages.specs.Asked.{Asked, asked_of}
+use Rattle.remainders.proofs.Reading.{get_or-map_read}
 use Rattle.stages.specs.Packing.{tightest}
 use Rattle.stages.proofs.Asking.{LawfulFamily}
 use Rattle.stages.proofs.Lawful.{Lawful}
 use Rattle.cover.specs.Memory.{room}
-use Rattle.cover.specs.Ready.{Ready}
+use Rattle.cover.specs.Questions.{asked}
+use Rattle.cover.specs.declared.question.Question.{Question}
 use Rattle.cover.proofs.Readiness.{ready_is_lawful}
 use Rattle.cover.proofs.PackingTurn.{has_room, some_is_tightest, link_placed, amount_is, unused, fits}
 use Rattle.cover.proofs.PackingProgress.{progress_at_first, progress_after, room_lengths, filled_from}
 use Rattle.cover.proofs.packing.pack.Given as given
 use Rattle.cover.proofs.packing.pack.Goals as goal
-use Rattle.cover.proofs.packing.pack.Goals.{In-Some-tightest}
-
-abbrev asked : (g : given.Over) → Sheet → List g.row.T.Denot → g.row.F.Denot → Asked
-asked g s prices f = asked_of g.T.Amount.width (held s) (map g.T.Amount.parts prices) (g.F.Family.small f) (g.F.Family.large f)
+use Rattle.cover.proofs.packing.pack.Goals.{In-Some-tightest, in-Some+in_default-tightest, in_default}
 
 laws : (g : given.Over) (f : g.row.F.Denot) → LawfulFamily (g.F.Family.size f) (g.F.Family.member f) (g.F.Family.small f) (g.F.Family.large f)
 laws g f =
@@ -32,71 +28,71 @@ laws g f =
       largest_none = g.met.F.Family.largest_none f;
     }
 
-lawful : (g : given.Over) (s : Sheet) (prices : List g.row.T.Denot) (f : g.row.F.Denot) → Ready (held s) (asked g s prices f) (g.F.Family.size f)
-    → Lawful s.stations (asked g s prices f) (g.F.Family.member f)
-lawful g s prices f ready =
-    ready_is_lawful g.T.Amount.parts g.T.Amount.width g.met.T.Amount.as_wide s prices (g.F.Family.size f) (g.F.Family.member f) (g.F.Family.small f) (g.F.Family.large f) (laws g f) ready
+lawful : (g : given.Over) (q : Question g.row.T.Denot g.row.F.Denot g.T.Amount g.F.Family) → Lawful q.sheet.now.stations.count (asked q) (g.F.Family.member q.family.now)
+lawful g q =
+    ready_is_lawful g.T.Amount.parts g.T.Amount.width g.met.T.Amount.as_wide q.sheet.now q.prices.now (g.F.Family.size q.family.now) (g.F.Family.member q.family.now)
+    (g.F.Family.small q.family.now) (g.F.Family.large q.family.now) (laws g q.family.now) q.ready
 
 pub copy_prices-requires : goal.copy_prices-requires
 copy_prices-requires g c =
     record {
-      prices = sym (length-map c.args.prices.now g.T.Amount.parts) ∙ c.requires.ready.column_sized;
-      left = (room_lengths (room c.args.left.now c.args.sets.now c.args.amounts.now) c.requires.memory).0;
+      prices = sym (length-map c.args.question.now.prices.now g.T.Amount.parts) ∙ c.args.question.now.ready.column_sized;
+      left = (room_lengths (room c.args.left.now c.args.sets.now c.args.amounts.now) c.requires).0;
     }
 
 pub loop-set-init : goal.loop-set-init
 loop-set-init g c =
     let parts = g.T.Amount.parts in
-    let s = c.args.sheet.now in
-    let prices = c.args.prices.now in
-    let f = c.args.family.now in
-    let lengths = room_lengths (room c.args.left.now c.args.sets.now c.args.amounts.now) c.requires.memory in
-    progress_at_first parts s.stations (asked g s prices f) (g.F.Family.member f) (lawful g s prices f c.requires.ready) prices c.copy_prices.new.left refl
-    (c.copy_prices.auto.left ∙ lengths.0 ∙ sym (sym (length-map prices parts) ∙ c.requires.ready.column_sized))
+    let s = c.args.question.now.sheet.now in
+    let prices = c.args.question.now.prices.now in
+    let f = c.args.question.now.family.now in
+    let lengths = room_lengths (room c.args.left.now c.args.sets.now c.args.amounts.now) c.requires in
+    progress_at_first parts s.stations.count (asked c.args.question.now) (g.F.Family.member f) (lawful g c.args.question.now) prices c.copy_prices.new.left refl
+    (c.copy_prices.auto.left ∙ lengths.0 ∙ sym (sym (length-map prices parts) ∙ c.args.question.now.ready.column_sized))
     (λ k d link. c.copy_prices.ensures k d ∙ ap (λ b. cond b (get_or prices k d) (get_or c.args.left.now k d)) link)
-    c.args.sets.now c.args.amounts.now c.used_up_at_first-used.result.marks (take c.used_up_at_first-used.result.count c.used_up_at_first-used.result.order)
+    c.args.sets.now c.args.amounts.now c.used_up_at_first-used.result.marks c.used_up_at_first-used.result.order.items
     c.used_up_at_first-used.ensures.marks c.used_up_at_first-used.ensures.order
 
 pub tightest-requires : goal.tightest-requires
 tightest-requires g c =
-    c.loop-set.auto.left ∙ c.copy_prices.auto.left ∙ (room_lengths (room c.args.left.now c.args.sets.now c.args.amounts.now) c.requires.memory).0
+    c.loop-set.auto.left ∙ c.copy_prices.auto.left ∙ (room_lengths (room c.args.left.now c.args.sets.now c.args.amounts.now) c.requires).0
 
 -- ---- a turn: what the question gave, and the link that holds it down
 
-given_set : (g : given.Over) (c : goal.In-Some-tightest g) → g.F.Family.small c.args.family.now (held c.args.sheet.now) c.loop-set.used.marks ≡ Some c.in-Some.set
+given_set : (g : given.Over) (c : goal.In-Some-tightest g) → g.F.Family.small c.args.question.now.family.now (held c.args.question.now.sheet.now) c.loop-set.used.marks ≡ Some c.in-Some.set
 given_set g c = sym c.smallest.ensures ∙ c.in-Some.is
 
 found_link : (g : given.Over) (c : goal.In-Some-tightest g)
-    → tightest c.args.sheet.now.links.slots (map g.T.Amount.parts c.loop-set.left) c.in-Some.set ≡ Some c.in-Some-tightest.link
+    → tightest c.args.question.now.sheet.now.links.slots (map g.T.Amount.parts c.loop-set.left) c.in-Some.set ≡ Some c.in-Some-tightest.link
 found_link g c = sym c.tightest.ensures ∙ c.in-Some-tightest.is
 
-lawful_here : (g : given.Over) (c : goal.In-Some-tightest g) → Lawful c.args.sheet.now.stations (asked g c.args.sheet.now c.args.prices.now c.args.family.now) (g.F.Family.member c.args.family.now)
-lawful_here g c = lawful g c.args.sheet.now c.args.prices.now c.args.family.now c.requires.ready
+lawful_here : (g : given.Over) (c : goal.In-Some-tightest g) → Lawful c.args.question.now.sheet.now.stations.count (asked c.args.question.now) (g.F.Family.member c.args.question.now.family.now)
+lawful_here g c = lawful g c.args.question.now
 
 -- there is room for one set more
 room_left : (g : given.Over) (c : goal.In-Some-tightest g) → c.loop-set.count + 1 ≤ 79
 room_left g c =
-    let s = c.args.sheet.now in
-    let f = c.args.family.now in
+    let s = c.args.question.now.sheet.now in
+    let f = c.args.question.now.family.now in
     let P = c.loop-set.invariant in
-    has_room s.stations (asked g s c.args.prices.now f) (g.F.Family.member f) (lawful_here g c) c.loop-set.count P.before
+    has_room s.stations.count (asked c.args.question.now) (g.F.Family.member f) (lawful_here g c) c.loop-set.count P.before
     c.loop-set.used.marks P.marks_show c.in-Some.set (given_set g c) (map g.T.Amount.parts c.loop-set.left) P.filled.left_written
 
 -- the lists and the column are as long as they were
 lengths : (g : given.Over) (c : goal.In-Some-tightest g) → (length c.loop-set.left ≡ 200) × (length c.loop-set.sets ≡ 80) × (length c.loop-set.amounts ≡ 80)
 lengths g c =
-    let at_first = room_lengths (room c.args.left.now c.args.sets.now c.args.amounts.now) c.requires.memory in
+    let at_first = room_lengths (room c.args.left.now c.args.sets.now c.args.amounts.now) c.requires in
     (c.loop-set.auto.left ∙ c.copy_prices.auto.left ∙ at_first.0, c.loop-set.auto.sets ∙ at_first.1, c.loop-set.auto.amounts ∙ at_first.2)
 
 link_in_column : (g : given.Over) (c : goal.In-Some-tightest g) → c.in-Some-tightest.link < length c.loop-set.left
 link_in_column g c =
-    let s = c.args.sheet.now in
-    let f = c.args.family.now in
+    let s = c.args.question.now.sheet.now in
+    let f = c.args.question.now.family.now in
     let P = c.loop-set.invariant in
     omega (
       arith,
       (lengths g c).0,
-      link_placed s.stations (asked g s c.args.prices.now f) (g.F.Family.member f) (lawful_here g c) c.loop-set.count P.before
+      link_placed s.stations.count (asked c.args.question.now) (g.F.Family.member f) (lawful_here g c) c.loop-set.count P.before
           c.loop-set.used.marks P.marks_show c.in-Some.set (given_set g c) (map g.T.Amount.parts c.loop-set.left) P.filled.left_written
           c.in-Some-tightest.link (found_link g c),
     )
@@ -132,18 +128,18 @@ pub lower-requires : goal.lower-requires
 lower-requires g c =
     let t = (goal.at.lower-requires g c).In-Some-tightest in
     let parts = g.T.Amount.parts in
-    let s = c.args.sheet.now in
-    let f = c.args.family.now in
-    let a = asked g s c.args.prices.now f in
+    let s = c.args.question.now.sheet.now in
+    let f = c.args.question.now.family.now in
+    let a = asked c.args.question.now in
     let P = c.loop-set.invariant in
     let left = c.loop-set.left in
     record {
       sized = (lengths g t).0;
-      unused = unused s.stations a (g.F.Family.member f) (lawful_here g t) c.loop-set.count P.before c.loop-set.used.marks P.marks_show c.in-Some.set (given_set g t) (map parts left) P.filled.left_written;
-      fits = fits s.stations a (g.F.Family.member f) (lawful_here g t) c.loop-set.count P.before c.loop-set.used.marks P.marks_show c.in-Some.set (given_set g t) (map parts left) P.filled.left_written
+      unused = unused s.stations.count a (g.F.Family.member f) (lawful_here g t) c.loop-set.count P.before c.loop-set.used.marks P.marks_show c.in-Some.set (given_set g t) (map parts left) P.filled.left_written;
+      fits = fits s.stations.count a (g.F.Family.member f) (lawful_here g t) c.loop-set.count P.before c.loop-set.used.marks P.marks_show c.in-Some.set (given_set g t) (map parts left) P.filled.left_written
           (parts c.index-left-link.result)
           (sym (get_or-map_read parts left c.in-Some-tightest.link c.index-left-link.result (link_in_column g t) c.index-left-link.is)
-          ∙ amount_is s.stations a (g.F.Family.member f) (lawful_here g t) c.loop-set.count P.before c.loop-set.used.marks P.marks_show c.in-Some.set (given_set g t) (map parts left) P.filled.left_written c.in-Some-tightest.link (found_link g t));
+          ∙ amount_is s.stations.count a (g.F.Family.member f) (lawful_here g t) c.loop-set.count P.before c.loop-set.used.marks P.marks_show c.in-Some.set (given_set g t) (map parts left) P.filled.left_written c.in-Some-tightest.link (found_link g t));
     }
 
 pub loop-set-smaller : goal.loop-set-smaller
@@ -153,39 +149,37 @@ pub loop-set-preserved : goal.loop-set-preserved
 loop-set-preserved g c =
     let t = (goal.at.loop-set-preserved g c).In-Some-tightest in
     let parts = g.T.Amount.parts in
-    let s = c.args.sheet.now in
-    let f = c.args.family.now in
+    let s = c.args.question.now.sheet.now in
+    let f = c.args.question.now.family.now in
     let left = c.loop-set.left in
-    progress_after parts s.stations (asked g s c.args.prices.now f) (g.F.Family.member f) (lawful_here g t)
+    progress_after parts s.stations.count (asked c.args.question.now) (g.F.Family.member f) (lawful_here g t)
     (room c.copy_prices.new.left c.args.sets.now c.args.amounts.now) left c.loop-set.sets c.loop-set.amounts c.loop-set.count
-    c.loop-set.used.marks (take c.loop-set.used.count c.loop-set.used.order) c.loop-set.invariant c.in-Some.set (given_set g t)
+    c.loop-set.used.marks c.loop-set.used.order.items c.loop-set.invariant c.in-Some.set (given_set g t)
     c.in-Some-tightest.link (found_link g t) c.index-left-link.result
     (get_or-map_read parts left c.in-Some-tightest.link c.index-left-link.result (link_in_column g t) c.index-left-link.is)
     (omega (arith, room_left g t, (lengths g t).1)) (room_for_amount g t)
-    c.lower.new.left c.lower.new.used.marks (take c.lower.new.used.count c.lower.new.used.order) c.lower.auto.left
+    c.lower.new.left c.lower.new.used.marks c.lower.new.used.order.items c.lower.auto.left
     c.lower.ensures.lowered c.lower.ensures.others c.lower.ensures.marks c.lower.ensures.order
 
 -- ---- the end
 
-pub returns-in_default-tightest : goal.returns-in_default-tightest
-returns-in_default-tightest g c =
-    let s = c.args.sheet.now in
-    let f = c.args.family.now in
+pub returns : goal.returns
+returns g c =
+    let s = c.args.question.now.sheet.now in
+    let f = c.args.question.now.family.now in
+    let a = asked c.args.question.now in
     let P = c.loop-set.invariant in
-    absurd (some_is_tightest s.stations (asked g s c.args.prices.now f) (g.F.Family.member f) (lawful g s c.args.prices.now f c.requires.ready) c.loop-set.count P.before
-    c.loop-set.used.marks P.marks_show c.in-Some.set (sym c.smallest.ensures ∙ c.in-Some.is) (map g.T.Amount.parts c.loop-set.left) P.filled.left_written
-    (sym c.tightest.ensures ∙ c.in_default-tightest.is))
-
-pub returns-in_default : goal.returns-in_default
-returns-in_default g c =
-    let s = c.args.sheet.now in
-    let f = c.args.family.now in
-    let a = asked g s c.args.prices.now f in
-    let P = c.loop-set.invariant in
+    let none_left : a.smallest c.loop-set.used.marks ≡ None = elim c.match-smallest.branch [
+      | in-Some+in_default-tightest w ↦
+          absurd (some_is_tightest s.stations.count a (g.F.Family.member f) (lawful g c.args.question.now) c.loop-set.count P.before
+          c.loop-set.used.marks P.marks_show w.in-Some.set (sym c.smallest.ensures ∙ w.in-Some.is) (map g.T.Amount.parts c.loop-set.left) P.filled.left_written
+          (sym w.tightest.ensures ∙ w.in_default-tightest.is))
+      | in_default w ↦ sym c.smallest.ensures ∙ w.in_default.is
+    ] in
     record {
-      stops = record { before = P.before; none = ap a.smallest (sym P.marks_show) ∙ sym c.smallest.ensures ∙ c.in_default.is };
+      stops = record { before = P.before; none = ap a.smallest (sym P.marks_show) ∙ none_left };
       order = P.order_is;
       filled = filled_from g.T.Amount.parts a c.args.left.now c.copy_prices.new.left c.args.sets.now c.args.amounts.now
           (room c.loop-set.left c.loop-set.sets c.loop-set.amounts) c.loop-set.count c.copy_prices.auto.left
-          (λ k d none. c.copy_prices.ensures k d ∙ ap (λ b. cond b (get_or c.args.prices.now k d) (get_or c.args.left.now k d)) none) P.filled;
+          (λ k d none. c.copy_prices.ensures k d ∙ ap (λ b. cond b (get_or c.args.question.now.prices.now k d) (get_or c.args.left.now k d)) none) P.filled;
     }

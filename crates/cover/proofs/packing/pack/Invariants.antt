@@ -1,6 +1,5 @@
-use Rattle.std.proofs.Common.{◌-◌, map, take}
-use Rattle.sheet.specs.Held.{held}
-use Rattle.stages.specs.Asked.{asked_of}
+use Rattle.std.proofs.Common.{◌-◌}
+use Rattle.cover.specs.Questions.{asked}
 use Rattle.cover.specs.Memory.{room}
 use Rattle.cover.proofs.PackingProgress.{Progress}
 use Rattle.cover.proofs.packing.pack.Given as goal
@@ -9,8 +8,8 @@ use Rattle.cover.proofs.packing.pack.Given as goal
 abbrev pub invariant-loop-set : goal.invariant-loop-set
 invariant-loop-set g l =
     let f = g.T.Amount.parts in
-    let a = asked_of g.T.Amount.width (held l.sheet) (map f l.prices) (g.F.Family.small l.family) (g.F.Family.large l.family) in
-    Progress f a (room l.initial.left l.initial.sets l.initial.amounts) (room l.left l.sets l.amounts) l.count l.used.marks (take l.used.count l.used.order)
+    let a = asked l.question in
+    Progress f a (room l.initial.left l.initial.sets l.initial.amounts) (room l.left l.sets l.amounts) l.count l.used.marks l.used.order.items
 
 abbrev pub decreases-loop-set : goal.decreases-loop-set
 decreases-loop-set g l = 80 - l.count

@@ -1,7 +1,7 @@
 use Rattle.std.proofs.Common.{◌≡◌, ◌<◌, map, get_or, sym, ◌∙◌, subst, ap₂, arith}
 use Rattle.std.proofs.lemmas.List.{take_all}
 use Rattle.amount.specs.Parts.{minus, Fitting}
-use Rattle.sheet.proofs.Columns.{get_or-map_read}
+use Rattle.remainders.proofs.Reading.{get_or-map_read}
 use Rattle.quote.specs.Trees.{shown}
 use Rattle.quote.proofs.Lowering.{Written, written_one_more}
 use Rattle.quote.proofs.revising.lower_listed.Goals as goal

@@ -1,7 +1,7 @@
 use Rattle.std.proofs.Common.{map, get_or, sym, ap, ◌∙◌}
 use Rattle.std.proofs.lemmas.List.{take_all}
 use Rattle.duality.specs.Trees.{cost_of_list}
-use Rattle.sheet.proofs.Columns.{get_or-map_read}
+use Rattle.remainders.proofs.Reading.{get_or-map_read}
 use Rattle.quote.specs.Trees.{shown}
 use Rattle.quote.proofs.ListCosts.{cost_one_more}
 use Rattle.quote.proofs.tree_cost.cost_of_listed.Goals as goal

@@ -1,10 +1,12 @@
-use Rattle.std.proofs.Common.{◌≡◌, cond, [], map, get_or}
-use Rattle.amount.specs.Parts.{nothing}
-use Rattle.digraph.specs.Entering.{marked}
+use Rattle.std.proofs.Common.{◌≡◌, ◌≤◌, map, length, drop}
 use Rattle.duality.specs.Costs.{summed}
+use Rattle.remainders.proofs.Summing.{priced_if_marked}
 use Rattle.remainders.proofs.cost.cost_of_marked.Given as goal
 
--- the prices so far
-abbrev pub invariant-loop-k : goal.invariant-loop-k
-invariant-loop-k g l =
-    g.T.Amount.parts l.total ≡ summed g.T.Amount.width (λ k. cond (marked l.marks k) (get_or (map g.T.Amount.parts l.prices) k []) (nothing g.T.Amount.width)) l.k
+-- the marks and prices still to come, and the prices so far
+abbrev pub invariant-loop-mark : goal.invariant-loop-mark
+invariant-loop-mark g l =
+    let n = length l.yielded in
+    (l.mark-iterator.a.rest.now ≡ drop n l.marks) × (l.mark-iterator.b.rest.now ≡ drop n l.prices)
+    × (g.T.Amount.parts l.total ≡ summed g.T.Amount.width (priced_if_marked g.T.Amount.width l.marks (map g.T.Amount.parts l.prices)) n)
+    × (n ≤ 200)

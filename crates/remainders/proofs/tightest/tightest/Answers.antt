@@ -1,17 +1,11 @@
-use Rattle.std.proofs.Common.{◌≡◌, ℕ, true, false, map, sym, refl, ◌∙◌, subst, arith}
-use Rattle.digraph.specs.Steps.{Low}
+use Rattle.std.proofs.Common.{◌≡◌, ℕ, true, false, map, sym, refl, ◌∙◌, arith}
 use Rattle.stages.specs.Packing.{tightest}
-use Rattle.remainders.proofs.Entering.{link_is_low, entered_as_tested, numbered_one_on, tightest_one_on, tightest_at_end}
+use Rattle.remainders.proofs.Entering.{numbered_one_on, tightest_one_on, tightest_at_end}
 use Rattle.remainders.proofs.tightest.tightest.Goals as goal
-use Rattle.remainders.proofs.tightest.tightest.Goals.{then-enters, else-enters}
+use Rattle.remainders.proofs.tightest.tightest.Goals.{then-link_enters, else-link_enters}
 
 pub loop-k-init : goal.loop-k-init
 loop-k-init g c = (refl, λ k e. absurd (let z : ◌≡◌ {A = ℕ} 0 1 = cc in omega arith))
-
-pub enters-requires : goal.enters-requires
-enters-requires g c =
-    let s = c.args.sheet.now in
-    subst Low (sym c.link.ensures) (link_is_low s.stations s.links.slots s.proper s.few c.loop-k.k)
 
 pub tighter-best-requires : goal.tighter-best-requires
 tighter-best-requires g c = record { sized = c.requires; numbered = c.loop-k.invariant.1; within = omega arith }
@@ -22,15 +16,15 @@ loop-k-preserved g c =
     let left = map g.T.Amount.parts c.args.left.now in
     let set = c.args.set in
     let k = c.loop-k.k in
-    let tested = entered_as_tested slots k set c.link.result c.enters.result c.link.ensures c.enters.ensures in
-    elim c.if-enters.branch [
-      | then-enters w ↦ (
-        tightest_one_on slots left set c.loop-k.best k 200 (omega arith) (tightest slots left set) c.loop-k.invariant.0 true c.if-enters.best (tested true w.if-enters.true) (w.best-is ∙ w.tighter-best.ensures),
-        numbered_one_on left c.loop-k.best k c.loop-k.invariant.1 (omega arith) true c.if-enters.best (w.best-is ∙ w.tighter-best.ensures),
+    let tested = sym c.link_enters.ensures in
+    elim c.if-link_enters.branch [
+      | then-link_enters w ↦ (
+        tightest_one_on slots left set c.loop-k.best k 200 (omega arith) (tightest slots left set) c.loop-k.invariant.0 true c.if-link_enters.best (tested ∙ w.if-link_enters.true) (w.best-is ∙ w.tighter-best.ensures),
+        numbered_one_on left c.loop-k.best k c.loop-k.invariant.1 (omega arith) true c.if-link_enters.best (w.best-is ∙ w.tighter-best.ensures),
       )
-      | else-enters w ↦ (
-        tightest_one_on slots left set c.loop-k.best k 200 (omega arith) (tightest slots left set) c.loop-k.invariant.0 false c.if-enters.best (tested false w.if-enters.false) w.best-is,
-        numbered_one_on left c.loop-k.best k c.loop-k.invariant.1 (omega arith) false c.if-enters.best w.best-is,
+      | else-link_enters w ↦ (
+        tightest_one_on slots left set c.loop-k.best k 200 (omega arith) (tightest slots left set) c.loop-k.invariant.0 false c.if-link_enters.best (tested ∙ w.if-link_enters.false) w.best-is,
+        numbered_one_on left c.loop-k.best k c.loop-k.invariant.1 (omega arith) false c.if-link_enters.best w.best-is,
       )
     ]
 

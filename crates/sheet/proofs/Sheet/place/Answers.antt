@@ -1,7 +1,5 @@
-use Rattle.std.proofs.Common.{◌≡◌, None, sym, ◌∙◌, subst}
+use Rattle.std.proofs.Common.{◌≡◌, None, sym, ◌∙◌, arith}
 use Rattle.digraph.specs.Links.{link_at}
-use Rattle.digraph.specs.Links.{Proper}
-use Rattle.sheet.specs.Keeps.{Spans}
 use Rattle.sheet.proofs.Keeping.{proper_with_link, spans_with_link, none_from_test}
 use Rattle.sheet.proofs.Sheet.place.Goals as goal
 
@@ -9,9 +7,8 @@ pub invariant_of-self : goal.invariant_of-self
 invariant_of-self g c =
     let s = c.args.self.now in
     let k = c.args.number in
-    let free : link_at s.links.slots k ≡ None = sym c.link.ensures ∙ none_from_test _ (sym c.is_some.ensures ∙ c.if-is_some.false) in record {
-      some = s.some;
-      few = s.few;
-      proper = subst (Proper s.stations) (sym c.put.ensures) (proper_with_link s.stations s.links.slots k _ c.if-tail-self.false c.if-head-self.false c.if-tail-head.false s.proper);
-      spans = subst (λ x. Spans s.stations x s.tree) (sym c.put.ensures) (spans_with_link s.stations s.links.slots s.tree k _ free s.spans);
+    let free : link_at s.links.slots k ≡ None = sym c.link.ensures ∙ none_from_test _ (sym c.is_some.ensures ∙ c.if-is_some.false) in
+    record {
+      proper = rw c.put.ensures (proper_with_link s.stations.count s.links.slots _ c.args.link (omega (arith, c.stations.ensures)) (omega (arith, c.stations-else-tail-stations.ensures)) c.if-tail-head.false s.proper);
+      spans = rw (c.put.ensures, c.from-2.ensures) (spans_with_link s.stations.count s.links.slots s.tree k c.args.link free s.spans);
     }

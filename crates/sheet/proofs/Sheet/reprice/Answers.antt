@@ -7,7 +7,7 @@ use Rattle.sheet.proofs.Sheet.reprice.Given as given
 use Rattle.sheet.proofs.Sheet.reprice.Goals as goal
 
 -- the number names a link, so it is a place of the column
-in_column : (g : given.Over) (c : goal.Else-not-is_legal g) → c.args.number < length c.args.prices.now
+in_column : (g : given.Over) (c : goal.After-from g) → c.from.result < length c.args.prices.now
 in_column g c =
     let a = c.args in
     let s = a.self.now in
@@ -16,8 +16,8 @@ in_column g c =
     let some : is_some (link_at s.links.slots a.number) ≡ true = ap is_some (sym c.link.ensures) ∙ c.if-is_none.ensures in
     omega (arith, size, length-map a.prices.now f, link_is_numbered s.links.slots a.number some, s.links.sized)
 
-pub bounds-prices-number : goal.bounds-prices-number
-bounds-prices-number g c = in_column g c
+pub bounds-prices-from : goal.bounds-prices-from
+bounds-prices-from g c = in_column g c
 
-pub offset_bounds-prices-number : goal.offset_bounds-prices-number
-offset_bounds-prices-number g c = let i : c.args.number < length c.args.prices.now = in_column g c in search rules
+pub offset_bounds-prices-from : goal.offset_bounds-prices-from
+offset_bounds-prices-from g c = let i : c.from.result < length c.args.prices.now = in_column g c in search rules

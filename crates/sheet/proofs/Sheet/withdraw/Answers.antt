@@ -1,7 +1,5 @@
-use Rattle.std.proofs.Common.{◌≡◌, true, is_some, sym, ap, ◌∙◌, subst, arith}
+use Rattle.std.proofs.Common.{◌≡◌, true, None, is_some, slice_set, sym, ap, ◌∙◌, arith}
 use Rattle.digraph.specs.Links.{link_at}
-use Rattle.digraph.specs.Links.{Proper}
-use Rattle.sheet.specs.Keeps.{Spans}
 use Rattle.sheet.proofs.Columns.{link_is_numbered}
 use Rattle.sheet.proofs.Keeping.{proper_without_link, spans_without_link}
 use Rattle.sheet.proofs.Sheet.withdraw.Goals as goal
@@ -16,9 +14,9 @@ put-requires g c =
 pub invariant_of-self : goal.invariant_of-self
 invariant_of-self g c =
     let s = c.args.self.now in
-    let k = c.args.number in record {
-      some = s.some;
-      few = s.few;
-      proper = subst (Proper s.stations) (sym c.put.ensures) (proper_without_link s.stations s.links.slots k s.proper);
-      spans = subst (λ x. Spans s.stations x s.tree) (sym c.put.ensures) (spans_without_link s.stations s.links.slots s.tree k (sym c.if-in_tree.ensures) s.spans);
+    let k = c.args.number in
+    let without = c.put.ensures ∙ ap (λ j. slice_set s.links.slots j None) c.from.ensures in
+    record {
+      proper = rw without (proper_without_link s.stations.count s.links.slots k s.proper);
+      spans = rw without (spans_without_link s.stations.count s.links.slots s.tree k (sym c.if-in_tree.ensures) s.spans);
     }

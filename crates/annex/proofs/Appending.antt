@@ -1,0 +1,55 @@
+-- Bytes appended in several steps are appended as one, and room for all of them is room for each step.
+-- The rest of what is being appended is named, and not what is there already.
+use Rattle.std.proofs.Common.{◌≡◌, ℕ, ◌+◌, ◌≤◌, List, [], ◌++◌, length, take, drop, ap₂, ◌∙◌, arith, append_assoc, length-append}
+use Rattle.std.proofs.lemmas.Grind.{common_steps}
+use Rattle.std.proofs.lemmas.Slice.{drop-append-drop}
+use Rattle.annex.specs.Places.{written, HasRoom, Appends}
+use Rattle.annex.specs.declared.text.Text.{Text}
+
+-- up to the place behind, a written text is its front and what was written
+take_written : (t : List ℕ) (at : ℕ) (bs : List ℕ) → at + length bs ≤ length t → take (at + length bs) (written t at bs) ≡ take at t ++ bs
+take_written t at bs h = grind (arith, common_steps)
+
+-- behind it, the text is as it was
+drop_written : (t : List ℕ) (at : ℕ) (bs : List ℕ) (k : ℕ) → at + length bs ≤ length t → drop (at + length bs + k) (written t at bs) ≡ drop (at + length bs + k) t
+drop_written t at bs k h =
+    rw (← append_assoc (take at t) bs (drop (at + length bs) t))
+    (drop-append-drop (at + length bs) t (take at t ++ bs) (at + length bs + k) (omega arith) (grind (arith, common_steps)))
+
+-- two writes, the second behind the first, are one
+written_then : (t : List ℕ) (at : ℕ) (bs cs : List ℕ) → at + length (bs ++ cs) ≤ length t → written (written t at bs) (at + length bs) cs ≡ written t at (bs ++ cs)
+written_then t at bs cs h =
+    let room : at + length bs ≤ length t = omega (arith, length-append bs cs) in
+    grind (arith, append_assoc, length-append, take_written t at bs room, drop_written t at bs (length cs) room)
+
+appends_then : {s t u : Text} (bs cs : List ℕ) → HasRoom s (bs ++ cs) → Appends s bs t → Appends t cs u → Appends s (bs ++ cs) u
+appends_then {s} bs cs h p q =
+    record {
+      bytes = q.bytes ∙ ap₂ (λ l k. written l k cs) p.bytes p.next ∙ written_then s.bytes.now s.at bs cs h;
+      size = q.size ∙ p.size;
+      next = q.next ∙ simp length-append (omega arith);
+      same_buffer = q.same_buffer ∙ p.same_buffer;
+    }
+
+-- room for k bytes is room for no more than k
+pub room_within : (s : Text) (bs : List ℕ) (k : ℕ) → length bs ≤ k → s.at + k ≤ length s.bytes.now → HasRoom s bs
+room_within s bs k short room = omega arith
+
+-- `whole` is being appended to `s`: `t` is the text by now, with room for the `rest`, which completes it
+pub record Under_way (s : Text) (whole : List ℕ) (t : Text) (rest : List ℕ) : Type 0 where
+  pub room : HasRoom t rest
+  pub completes : (u : Text) → Appends t rest u → Appends s whole u
+
+pub begun : {s : Text} {whole : List ℕ} → HasRoom s whole → Under_way s whole s whole
+begun room = record { room = room; completes = λ u p. p }
+
+-- the next of the rest appended
+pub gone_on : {s t u : Text} {whole : List ℕ} (bs cs : List ℕ) → Under_way s whole t (bs ++ cs) → Appends t bs u → Under_way s whole u cs
+gone_on bs cs w p =
+    record {
+      room = omega (arith, length-append bs cs, w.room, p.next, p.size);
+      completes = λ v q. w.completes v (appends_then bs cs w.room p q);
+    }
+
+pub done : {s t : Text} {whole : List ℕ} → Under_way s whole t [] → Appends s whole t
+done {t = t} w = w.completes t (grind (arith, common_steps))

@@ -1,6 +1,0 @@
--- Why the recursion ends.
--- A number without its last digit is smaller.
-use Rattle.annex.proofs.number.+put_number.Given as goal
-
-abbrev pub decreases-put_number : goal.decreases-put_number
-decreases-put_number l = l.n
