@@ -112,9 +112,9 @@ module _ (masks : List ℕ) (start seen todo : ℕ) (was : Searched masks start 
   pub station_below : count_trailing_zeros 64 todo < 40
   station_below = In-below 40 todo (count_trailing_zeros 64 todo) (todo_small masks start seen todo was) station_in
 
-  module _ (bounded : (u : ℕ) → get_or masks u 0 < 2 ^ 40) where
+  module _ (bounded : (u : ℕ) → u < 40 → get_or masks u 0 < 2 ^ 40) where
     pub station_adds : Fresh masks seen (count_trailing_zeros 64 todo) (newly (get_or masks (count_trailing_zeros 64 todo) 0) seen)
-    station_adds = newly_fresh masks seen (count_trailing_zeros 64 todo) (bounded (count_trailing_zeros 64 todo)) was.small
+    station_adds = newly_fresh masks seen (count_trailing_zeros 64 todo) (bounded (count_trailing_zeros 64 todo) station_below) was.small
 
     -- the stations seen and those to do after it
     module _ (seen' todo' : ℕ) (more : seen' ≡ bit_or seen (newly (get_or masks (count_trailing_zeros 64 todo) 0) seen))

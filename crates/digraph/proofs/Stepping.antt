@@ -99,7 +99,7 @@ bit_more_low masks t h bit u is below low = ⊎_elim same other (cases_eq u t)
         ⊎_elim (λ h. rw (q, get_or-set_same masks t (bit_or (get_or masks t 0) bit) 0 h) new)
         (λ h. rw (set_past masks t (bit_or (get_or masks t 0) bit) h) (low u)) (cases_lt t (length masks))
 
-next_step_low : (o : Option Link) (masks : List ℕ) → Low o → ((u : ℕ) → get_or masks u 0 < 2 ^ 40) → (u : ℕ) → get_or (with_step masks o) u 0 < 2 ^ 40
+pub next_step_low : (o : Option Link) (masks : List ℕ) → Low o → ((u : ℕ) → get_or masks u 0 < 2 ^ 40) → (u : ℕ) → get_or (with_step masks o) u 0 < 2 ^ 40
 next_step_low None masks ends low u = low u
 next_step_low (Some l) masks ends low u = bit_more_low masks l.tail l.head (2 ^ l.head) u refl (ends l refl).1 low
 

@@ -1,5 +1,5 @@
 //! The stations that are reached from a station, step by step.
-ghost use Rattle.std.specs.Prelude.{◌≡◌, ℕ, ◌^◌, ◌<◌, Decides, bit_or, bit_xor};
+ghost use Rattle.std.specs.Prelude.{◌≡◌, ℕ, ◌^◌, ◌<◌, Decides, bit_or, bit_xor, slice_index};
 ghost use Rattle.stations.specs.Sets.{In, Part, has};
 ghost use Rattle.digraph.specs.Paths.{Path};
 ghost use Rattle.digraph.specs.Search.{Closed, Next, newly, reach_set};
@@ -8,6 +8,25 @@ use crate::steps::Steps;
 
 /// How many stations there can be.
 pub const STATIONS: usize = 40;
+
+/// The stations reached from `start`, itself included, where place `u` of `next` has the stations one step from `u`.
+pub fn reached(next: &[u64; STATIONS], start: u8) -> u64
+    requires in_range { start < 40 }
+    requires bounded { (u : ℕ) → u < 40 → slice_index next.now u < 2 ^ 40 }
+    ensures value { result ≡ reach_set next.now start }
+    ensures small { result < 2 ^ 40 }
+    ensures has_start { In result start }
+    ensures closed { Closed next.now result }
+    ensures least { (z : ℕ) → In z start → Closed next.now z → Part result z }
+    ensures paths { (v : ℕ) → Decides (has result v) (Path (Next next.now) start v) }
+{
+    let mut progress = Progress::begin(start);
+    while progress.todo != 0 {
+        let station = progress.todo.trailing_zeros();
+        progress.look(station, next[station as usize]);
+    }
+    progress.seen
+}
 
 impl Steps {
     /// The stations reached from `start`, itself included.
@@ -20,12 +39,7 @@ impl Steps {
         ensures least { (z : ℕ) → In z start → Closed self.now.next z → Part result z }
         ensures paths { (v : ℕ) → Decides (has result v) (Path (Next self.now.next) start v) }
     {
-        let mut progress = Progress::begin(start);
-        while progress.todo != 0 {
-            let station = progress.todo.trailing_zeros();
-            progress.look(station, self.next[station as usize]);
-        }
-        progress.seen
+        reached(&self.next, start)
     }
 }
 

@@ -13,6 +13,16 @@ pub struct Steps {
     ghost bounded: { (u : ℕ) → slice_index next u < 2 ^ 40 },
 }
 
+/// Adds the step from a link's tail to its head, if there is a link, to masks of any stations.
+pub fn add_step(next: &mut [u64; STATIONS], link: Option<Link>)
+    requires { Low link }
+    ensures { next.new ≡ with_step next.old link }
+{
+    if let Some(Link { tail, head }) = link {
+        next[tail as usize] |= 1 << head;
+    }
+}
+
 impl Steps {
     /// No steps.
     pub fn none() -> Steps
@@ -28,8 +38,6 @@ impl Steps {
         requires { Low link }
         ensures { self.new.next ≡ with_step self.old.next link }
     {
-        if let Some(Link { tail, head }) = link {
-            self.next[tail as usize] |= 1 << head;
-        }
+        add_step(&mut self.next, link);
     }
 }

@@ -1,6 +1,8 @@
 -- What the checks of a call and the tests over a sheet's links say, place by place.
-use Rattle.std.proofs.Common.{◌≡◌, ℕ, ◌<◌, true, not, ◌&&◌, ◌||◌, eqb, List, [], ◌∷◌, map, length, get_or, ℤ, is_some, None, refl, ap, ⊎_elim, arith}
-use Rattle.std.specs.List.{list_all, zip}
+use Rattle.std.proofs.Common.{◌≡◌, ℕ, ◌<◌, Bool, true, not, ◌&&◌, ◌||◌, eqb, List, [], ◌∷◌, map, length, get_or, ℤ, is_some, None, refl, sym, ◌∙◌, ap, ⊎_elim, arith}
+use Rattle.std.specs.List.{list_all, range_with_len, zip}
+use Rattle.std.proofs.lemmas.List.Folds.{list_all-map}
+use Rattle.std.proofs.lemmas.List.FromFn.{fill_by_all}
 use Rattle.std.proofs.lemmas.List.{get_or_past}
 use Rattle.std.proofs.lemmas.List.Recursion.{and_at, or_at}
 use Rattle.std.proofs.lemmas.Bool.{both_ways, cases_lt, eq-eqb}
@@ -35,3 +37,9 @@ named_at_place slots ks e i h = and_at (all_links slots) (λ k. is_some (link_at
 -- a number at a place of a list is listed
 pub listed_at_place : (k : ℕ) (xs : List ℕ) (i : ℕ) → i < length xs → get_or xs i 0 ≡ k → listed k xs ≡ true
 listed_at_place k xs i h e = or_at (listed k) (λ x. eqb x k) refl (λ _ _. refl) xs i 0 h (eq-eqb (get_or xs i 0) k e)
+
+-- a test of the numbers of a list is one of its places
+pub tested_by_place : (test : ℕ → Bool) (ks : List ℕ) → list_all (λ i. test (get_or ks i 0)) (range_with_len 0 (length ks)) ≡ list_all test ks
+tested_by_place test ks =
+    sym (list_all-map test (λ i. get_or ks i 0) (range_with_len 0 (length ks)))
+    ∙ sym (ap (list_all test) (fill_by_all (λ i. get_or ks i 0) ks (length ks) 0 refl (λ k h. refl)))

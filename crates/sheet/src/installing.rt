@@ -7,7 +7,7 @@ ghost use Rattle.sheet.specs.Held.{held, with_tree};
 ghost use Rattle.sheet.specs.Calls.{install_checks, tree_checks};
 
 use crate::Sheet;
-use crate::numbers::LinkNumber;
+use crate::numbers::Numbers;
 use crate::spanning::{names_links, spans, tree_of};
 use amount::kind::Amount;
 use refusal::{Refusal, TreeRefusal};
@@ -20,18 +20,18 @@ impl Sheet {
         ensures holds { held self.new ≡ (if is_ok result then with_tree (held self.old) list.now else held self.old) }
     {
         self.check_column(prices)?;
-        self.plant(list)?;
+        self.plant(&list)?;
         Ok(())
     }
 
-    /// Installs the tree of a list of link numbers of any width: the column's checks aside, this is
+    /// Installs the tree of a list of link numbers, wherever they lie: the column's checks aside, this is
     /// what `install` does.
-    pub fn plant<N: LinkNumber>(&mut self, list: &[N]) -> Result<(), TreeRefusal>
-        ensures refusal { (spanning : Bool) → Decides spanning (SpanningTree (held self.old).stations (held self.old).links (map N.number list.now)) → result_err result ≡ first (tree_checks (held self.old) (map N.number list.now) spanning) }
+    pub fn plant<L: Numbers>(&mut self, list: &L) -> Result<(), TreeRefusal>
+        ensures refusal { (spanning : Bool) → Decides spanning (SpanningTree (held self.old).stations (held self.old).links (L.numbers list.now)) → result_err result ≡ first (tree_checks (held self.old) (L.numbers list.now) spanning) }
         ensures kept { is_ok result ≡ false → self.new ≡ self.old }
-        ensures holds { held self.new ≡ (if is_ok result then with_tree (held self.old) (map N.number list.now) else held self.old) }
+        ensures holds { held self.new ≡ (if is_ok result then with_tree (held self.old) (L.numbers list.now) else held self.old) }
     {
-        if list.len() != usize::from(self.stations()) - 1 {
+        if list.count() != usize::from(self.stations()) - 1 {
             return Err(TreeRefusal::TreeLength);
         }
         if !names_links(self, list) {

@@ -11,6 +11,7 @@ use stations::count::StationCount;
 pub mod adding;
 pub mod column;
 pub mod installing;
+mod listed;
 pub mod numbers;
 pub mod opening;
 pub mod pricing;

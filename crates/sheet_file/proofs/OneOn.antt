@@ -1,59 +1,34 @@
 -- The loops over a file's records, one record on: what is still to come brings the sheet, or the
--- column, to the answer. By taking the first record off the bytes that are left.
-use Rattle.std.proofs.Common.{◌≡◌, ℕ, zero, suc, ◌+◌, ◌*◌, ◌/◌, ◌<◌, ◌≤◌, false, eqb, List, [], ◌∷◌, ◌++◌, length, take, drop, set, ℤ, true, is_ok, Result, MatchResult, Some, None, Ok, Err, refl, sym, ap, ◌∙◌, subst, suc-mul, arith}
-use Rattle.std.proofs.Math.Seq.{take-append_seam, drop-append-add}
-use Rattle.std.proofs.Math.Nat.{add-div_left, div-eq_of_lt}
-use Rattle.std.proofs.lemmas.Bool.{or_parts, eqb-false, false≢true}
+-- column, to the answer. By taking the first record off those to come.
+use Rattle.std.proofs.Common.{◌≡◌, ℕ, zero, suc, ◌+◌, ◌-◌, ◌*◌, ◌/◌, ◌<◌, ◌≤◌, true, false, eqb, List, ◌∷◌, set, ℤ, is_ok, Result, MatchResult, Some, None, Ok, Err, refl, sym, ap, ◌∙◌, suc-mul, div-mul-le_self, arith}
+use Rattle.std.proofs.lemmas.Nat.{mul-le}
 use Rattle.std.specs.Result.{IsErrAnd, result_err}
-use Rattle.std.proofs.lemmas.List.{length-append}
-use Rattle.amount.specs.Records.{length_of_record}
+use Rattle.std.proofs.lemmas.Bool.{or_parts, eqb-false, false≢true}
 use Rattle.refusal.specs.Checks.{first}
 use Rattle.refusal.specs.declared.LinkRefusal.{LinkRefusal}
 use Rattle.refusal.specs.declared.Refusal.{Refusal}
 use Rattle.refusal.specs.declared.Refusal.TheVariants.{FileRecord}
 use Rattle.sheet.specs.Calls.{link_checks}
 use Rattle.sheet.specs.Held.{Held, with_link}
-use Rattle.sheet_file.specs.Files.{Entry, entry_of, entry_at, entries_from}
+use Rattle.sheet_file.specs.Files.{Entry, entry_at, entries_from}
 use Rattle.sheet_file.specs.Loading.{unless_refused, link_of, mentions}
 use Rattle.sheet_file.specs.Placing.{placing, writing}
 
--- the records of these bytes, in their order
-abbrev pub records_of : ℕ → List ℕ → List Entry
-records_of w bs = entries_from w bs 0 (length bs / length_of_record w)
+-- a record of a whole section lies inside it
+pub record_is_inside : (n size place : ℕ) → place < n / size → place * size + size ≤ n
+record_is_inside n size place h =
+    omega (arith, suc-mul place size, mul-le (suc place) size (n / size) size h (omega arith), div-mul-le_self n size)
 
--- bytes that are too few for a record have none
-pub none_left : (w : ℕ) (bs : List ℕ) → length bs < length_of_record w → records_of w bs ≡ []
-none_left w bs short = ap (entries_from w bs 0) (div-eq_of_lt short)
-
--- where a record stands in front, the others are those of the bytes behind it
-module _ (w : ℕ) (front behind : List ℕ) (whole : length front ≡ length_of_record w) where
-  one_further : (i : ℕ) → entry_at w (front ++ behind) (i + 1) ≡ entry_at w behind i
-  one_further i =
-      let start : (i + 1) * length_of_record w ≡ length front + i * length_of_record w = omega (arith, suc-mul i (length_of_record w), whole) in
-      ap (λ at. entry_of w (take (length_of_record w) at)) (ap (λ n. drop n (front ++ behind)) start ∙ drop-append-add front behind (i * length_of_record w))
-
-  all_further : (i n : ℕ) → entries_from w (front ++ behind) (i + 1) n ≡ entries_from w behind i n
-  all_further i zero = refl
-  all_further i (suc n) = ap (λ e. e ∷ entries_from w (front ++ behind) (i + 1 + 1) n) (one_further i) ∙ ap (λ es. entry_at w behind i ∷ es) (all_further (i + 1) n)
-
-  front_first : entry_at w (front ++ behind) 0 ≡ entry_of w front
-  front_first =
-      let none_before : 0 * length_of_record w ≡ 0 = omega arith in
-      ap (λ n. entry_of w (take (length_of_record w) (drop n (front ++ behind)))) none_before ∙ ap (entry_of w) (ap (λ n. take n (front ++ behind)) (sym whole) ∙ take-append_seam front behind)
-
-  one_more : length (front ++ behind) / length_of_record w ≡ suc (length behind / length_of_record w)
-  one_more = ap (λ n. n / length_of_record w) (length-append front behind ∙ ap (λ n. n + length behind) whole) ∙ add-div_left (length behind) (omega arith) ∙ (let z : length behind / length_of_record w + 1 ≡ suc (length behind / length_of_record w) = omega arith in z)
-
-  front_taken : records_of w (front ++ behind) ≡ (entry_of w front ∷ records_of w behind)
-  front_taken =
-      ap (entries_from w (front ++ behind) 0) one_more ∙ ap (λ e. e ∷ entries_from w (front ++ behind) 1 (length behind / length_of_record w)) front_first ∙ ap (λ es. entry_of w front ∷ es) (all_further 0 (length behind / length_of_record w))
+-- a record taken off the front of those to come
+entries_unrolled : (w : ℕ) (bs : List ℕ) (place n : ℕ) → place < n → entries_from w bs place (n - place) ≡ (entry_at w bs place ∷ entries_from w bs (place + 1) (n - (place + 1)))
+entries_unrolled w bs place n h = let one_less : n - place ≡ suc (n - (place + 1)) = omega arith in ap (entries_from w bs place) one_less
 
 -- what one record does to a sheet
 module _ (place : ℕ) (h : Held) (e : Entry) (es : List Entry) where
-  placing_refused : (why : LinkRefusal) → first (link_checks h e.number e.tail e.head e.price) ≡ Some why → placing place h (e ∷ es) ≡ Err (FileRecord place why)
+  pub placing_refused : (why : LinkRefusal) → first (link_checks h e.number e.tail e.head e.price) ≡ Some why → placing place h (e ∷ es) ≡ Err (FileRecord place why)
   placing_refused why q = ap (λ o. unless_refused o (FileRecord place) (placing (place + 1) (with_link h e.number (Some (link_of e))) es)) q
 
-  placing_accepted : first (link_checks h e.number e.tail e.head e.price) ≡ None → placing place h (e ∷ es) ≡ placing (place + 1) (with_link h e.number (Some (link_of e))) es
+  pub placing_accepted : first (link_checks h e.number e.tail e.head e.price) ≡ None → placing place h (e ∷ es) ≡ placing (place + 1) (with_link h e.number (Some (link_of e))) es
   placing_accepted q = ap (λ o. unless_refused o (FileRecord place) (placing (place + 1) (with_link h e.number (Some (link_of e))) es)) q
 
 -- a link that was placed, and one that was refused, told with its place
@@ -71,35 +46,27 @@ pub placed_err
 placed_err place gives (Ok x) told e m q = absurd (let z : ◌≡◌ {A = ℕ} 0 1 = cc in omega arith)
 placed_err place gives (Err why) told e m q = (why, refl, gives why e (rw q at m))
 
--- the same inside the loop, where e is the record that was read from the front of what was left
-module _ (w : ℕ) (left front behind : List ℕ) (cut : left ≡ front ++ behind) (whole : length front ≡ length_of_record w) (e : Entry) (read : e ≡ entry_of w front) where
-  to_come : records_of w left ≡ (e ∷ records_of w behind)
-  to_come = ap (records_of w) cut ∙ front_taken w front behind whole ∙ ap (λ x. x ∷ records_of w behind) (sym read)
+-- the same inside the loop, where e is the record that was read
+module _ (w : ℕ) (bs : List ℕ) (place n : ℕ) (here : place < n) (e : Entry) (read : e ≡ entry_at w bs place) where
+  to_come : entries_from w bs place (n - place) ≡ (e ∷ entries_from w bs (place + 1) (n - (place + 1)))
+  to_come = entries_unrolled w bs place n here ∙ ap (λ x. x ∷ entries_from w bs (place + 1) (n - (place + 1))) (sym read)
 
-  pub shorter_here : suc (length behind) ≤ length left
-  shorter_here = omega (arith, ap length cut, length-append front behind, whole)
+  pub refused_here : (h : Held) (why : LinkRefusal) → first (link_checks h e.number e.tail e.head e.price) ≡ Some why → placing place h (entries_from w bs place (n - place)) ≡ Err (FileRecord place why)
+  refused_here h why q = ap (placing place h) to_come ∙ placing_refused place h e (entries_from w bs (place + 1) (n - (place + 1))) why q
 
-  pub refused_here : (place : ℕ) (h : Held) (why : LinkRefusal) → first (link_checks h e.number e.tail e.head e.price) ≡ Some why → placing place h (records_of w left) ≡ Err (FileRecord place why)
-  refused_here place h why q = ap (placing place h) to_come ∙ placing_refused place h e (records_of w behind) why q
+  pub accepted_here : (h after : Held) → first (link_checks h e.number e.tail e.head e.price) ≡ None → after ≡ with_link h e.number (Some (link_of e)) → placing (place + 1) after (entries_from w bs (place + 1) (n - (place + 1))) ≡ placing place h (entries_from w bs place (n - place))
+  accepted_here h after q made =
+      ap (λ x. placing (place + 1) x (entries_from w bs (place + 1) (n - (place + 1)))) made ∙ sym (ap (placing place h) to_come ∙ placing_accepted place h e (entries_from w bs (place + 1) (n - (place + 1))) q)
 
-  pub accepted_here : (place next : ℕ) → next ≡ place + 1 → (h after : Held) → first (link_checks h e.number e.tail e.head e.price) ≡ None → after ≡ with_link h e.number (Some (link_of e)) → placing next after (records_of w behind) ≡ placing place h (records_of w left)
-  accepted_here place next on h after q made =
-      ap (λ n. placing n after (records_of w behind)) on ∙ ap (λ x. placing (place + 1) x (records_of w behind)) made ∙ sym (ap (placing place h) to_come ∙ placing_accepted place h e (records_of w behind) q)
+  pub written_here : (ps after : List (List ℤ)) → after ≡ set ps e.number e.price → writing after (entries_from w bs (place + 1) (n - (place + 1))) ≡ writing ps (entries_from w bs place (n - place))
+  written_here ps after made = ap (λ x. writing x (entries_from w bs (place + 1) (n - (place + 1)))) made ∙ sym (ap (writing ps) to_come)
 
-  pub written_here : (ps after : List (List ℤ)) → after ≡ set ps e.number e.price → writing after (records_of w behind) ≡ writing ps (records_of w left)
-  written_here ps after made = ap (λ x. writing x (records_of w behind)) made ∙ sym (ap (writing ps) to_come)
-
-  -- a number that no record has is not this one's, and no later one's
-  pub not_mentioned_here : (k : ℕ) → mentions k (records_of w left) ≡ false → (k ≡ e.number → ⊥) × (mentions k (records_of w behind) ≡ false)
-  not_mentioned_here k none =
-      let apart = or_parts (eqb e.number k) (mentions k (records_of w behind)) (sym (ap (mentions k) to_come) ∙ none) in
-      (λ same. eqb-false e.number k apart.0 (sym same), apart.1)
-
-  -- where every record's number is small, this one's is, and so are the later ones'
-  pub small_here : (m : ℕ) → ((i : ℕ) → i < length left / length_of_record w → (entry_at w left i).number < m) → (e.number < m) × ((i : ℕ) → i < length behind / length_of_record w → (entry_at w behind i).number < m)
-  small_here m small =
-      let all : (i : ℕ) → i < length (front ++ behind) / length_of_record w → (entry_at w (front ++ behind) i).number < m = subst (λ bs. (i : ℕ) → i < length bs / length_of_record w → (entry_at w bs i).number < m) cut small in
-      let more = one_more w front behind whole in (
-        subst (λ x. x.number < m) (front_first w front behind whole ∙ sym read) (all 0 (omega (arith, more))),
-        λ i h. subst (λ x. x.number < m) (one_further w front behind whole i) (all (i + 1) (omega (arith, more))),
-      )
+-- a number that no record has is not that of any place
+pub not_mentioned_at : (w : ℕ) (bs : List ℕ) (k start n : ℕ) → mentions k (entries_from w bs start n) ≡ false → (i : ℕ) → i < n → k ≡ (entry_at w bs (start + i)).number → ⊥
+not_mentioned_at w bs k start zero none i h e = omega arith
+not_mentioned_at w bs k start (suc n) none zero h e =
+    let apart = (or_parts (eqb (entry_at w bs start).number k) (mentions k (entries_from w bs (start + 1) n)) none).0 in
+    eqb-false (entry_at w bs start).number k apart (sym (e ∙ ap (λ x. (entry_at w bs x).number) (let z : start + 0 ≡ start = omega arith in z)))
+not_mentioned_at w bs k start (suc n) none (suc i) h e =
+    not_mentioned_at w bs k (start + 1) n (or_parts (eqb (entry_at w bs start).number k) (mentions k (entries_from w bs (start + 1) n)) none).1 i (omega arith)
+    (e ∙ ap (λ x. (entry_at w bs x).number) (let z : start + suc i ≡ start + 1 + i = omega arith in z))

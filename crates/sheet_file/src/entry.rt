@@ -33,7 +33,7 @@ pub fn record_at<T: Amount>(records: &[u8], place: usize) -> LinkRecord<T>
 }
 
 /// The record that these bytes are.
-pub(crate) fn read_record<T: Amount>(bytes: &[u8]) -> LinkRecord<T>
+fn read_record<T: Amount>(bytes: &[u8]) -> LinkRecord<T>
     requires { length bytes.now ≡ length_of_record T.width }
     ensures { ◌≡◌ {A = Entry} (record { number = result.number; tail = result.link.tail; head = result.link.head; price = T.parts result.price }) (entry_of T.width bytes.now) }
 {

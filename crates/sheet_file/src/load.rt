@@ -45,6 +45,6 @@ fn sheet_in<T: Amount>(file: SheetFile<'_>) -> Result<Sheet, Refusal>
     if file.tree.is_empty() {
         return Ok(sheet);
     }
-    sheet.plant(file.tree).map_err(Refusal::FileTree)?;
+    sheet.plant(&file.tree).map_err(Refusal::FileTree)?;
     Ok(sheet)
 }

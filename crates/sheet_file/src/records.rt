@@ -7,7 +7,7 @@ ghost use Rattle.sheet_file.specs.Files.{entries_from, entry_at};
 ghost use Rattle.sheet_file.specs.Loading.{mentions};
 ghost use Rattle.sheet_file.specs.Placing.{placing, writing};
 
-use crate::entry::read_record;
+use crate::entry::{count_records, record_at};
 use amount::kind::Amount;
 use refusal::Refusal;
 use sheet::Sheet;
@@ -17,8 +17,8 @@ pub fn place_records<T: Amount>(sheet: &mut Sheet, records: &[u8]) -> Result<(),
     requires { length records.now ≤ 4096 }
     ensures { result_map_both (λ _. held sheet.new) (λ e. e) result ≡ placing 0 (held sheet.old) (entries_from T.width records.now 0 (length records.now / length_of_record T.width)) }
 {
-    for (place, bytes) in records.chunks_exact(T::RECORD).enumerate() {
-        let record = read_record::<T>(bytes);
+    for place in 0..count_records::<T>(records) {
+        let record = record_at::<T>(records, place);
         sheet
             .place(record.number, record.link, record.price)
             .map_err(|why| Refusal::FileRecord(place as u16, why))?;
@@ -32,8 +32,8 @@ pub fn write_prices<T: Amount>(prices: &mut [T], records: &[u8])
     ensures written { map T.parts prices.new ≡ writing (map T.parts prices.old) (entries_from T.width records.now 0 (length records.now / length_of_record T.width)) }
     ensures untouched { (k : ℕ) (d : T) → mentions k (entries_from T.width records.now 0 (length records.now / length_of_record T.width)) ≡ false → slice_index_or prices.new k d ≡ slice_index_or prices.old k d }
 {
-    for bytes in records.chunks_exact(T::RECORD) {
-        let record = read_record::<T>(bytes);
+    for place in 0..count_records::<T>(records) {
+        let record = record_at::<T>(records, place);
         prices[usize::from(record.number)] = record.price;
     }
 }

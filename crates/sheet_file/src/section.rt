@@ -9,8 +9,8 @@ use amount::word::word;
 pub struct Section {
     pub start: usize,
     pub size: usize,
-    ghost start_fits: { start < 2 ^ 32 },
-    ghost size_fits: { size < 2 ^ 32 },
+    pub ghost start_fits: { start < 2 ^ 32 },
+    pub ghost size_fits: { size < 2 ^ 32 },
 }
 
 impl Section {
@@ -19,6 +19,7 @@ impl Section {
         requires { place + 8 ≤ length file.now }
         ensures start { result.start ≡ (section_at file.now place).start }
         ensures size { result.size ≡ (section_at file.now place).size }
+        ensures small { (result.start < 2 ^ 32) × (result.size < 2 ^ 32) }
     {
         Section {
             start: word(file, place) as usize,

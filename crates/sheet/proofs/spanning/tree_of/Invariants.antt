@@ -1,5 +1,5 @@
-use Rattle.std.proofs.Common.{◌≡◌, map, length, take}
+use Rattle.std.proofs.Common.{◌≡◌, length, take}
 use Rattle.sheet.proofs.spanning.tree_of.Given as goal
 
-abbrev pub invariant-loop-place : goal.invariant-loop-place
-invariant-loop-place g l = (length l.numbers ≡ 39) × (take l.place l.numbers ≡ map g.N.LinkNumber.number (take l.place l.list))
+abbrev pub invariant-loop-i : goal.invariant-loop-i
+invariant-loop-i g l = (length l.numbers ≡ 39) × (take l.i l.numbers ≡ take l.i (g.L.Numbers.numbers l.list))
