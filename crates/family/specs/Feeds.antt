@@ -141,7 +141,7 @@ module _ (n : ℕ) (h : Held) (marks : List ℕ) (sound : Sound h) (right : h.st
   -- around a station of an unentered set lies a set inside it
   around_inside : (x v : ℕ) → x < 2 ^ n → In x v → Unentered h.links marks x → Part (reaching h.links marks v) x
   around_inside x v small held out =
-      reaching_least h sound marks v (station_of v (In-below n x v small held)) x held out
+      reaching_least h.stations h.links sound.proper sound.few sound.sized marks v (station_of v (In-below n x v small held)) x held out
 
   around_lacks_base : (x v : ℕ) → FeedMember n x → In x v → Unentered h.links marks x → has (reaching h.links marks v) 0 ≡ false
   around_lacks_base x v member held out =
@@ -162,11 +162,11 @@ module _ (n : ℕ) (h : Held) (marks : List ℕ) (sound : Sound h) (right : h.st
           record {
             member =
                 record {
-                  inside = subst (λ m. m < 2 ^ n) (sym best.is) (subst (λ m. reaching h.links marks v < 2 ^ m) right (reaching_inside h sound marks v low));
-                  some = holding_is_some set v (subst (λ m. In m v) (sym best.is) (reaching_has_it h sound marks v low));
+                  inside = subst (λ m. m < 2 ^ n) (sym best.is) (subst (λ m. reaching h.links marks v < 2 ^ m) right (reaching_inside h.stations h.links sound.proper sound.few sound.sized marks v low));
+                  some = holding_is_some set v (subst (λ m. In m v) (sym best.is) (reaching_has_it h.stations h.links sound.proper sound.few sound.sized marks v low));
                   without_base = best.without_base;
                 };
-            unentered = subst (Unentered h.links marks) (sym best.is) (reaching_unentered h sound marks v low);
+            unentered = subst (Unentered h.links marks) (sym best.is) (reaching_unentered h.stations h.links sound.proper sound.few sound.sized marks v low);
             no_part = λ other member out part.
                 let (u, held) = some_station other member in
                 let inside = around_inside other u member.inside held out in
@@ -191,17 +191,17 @@ module _ (n : ℕ) (h : Held) (marks : List ℕ) (sound : Sound h) (right : h.st
   rest_is = ap (λ m. others m (reached_from h.links marks 0)) right
 
   reached_small : reached_from h.links marks 0 < 2 ^ n
-  reached_small = subst (λ m. reached_from h.links marks 0 < 2 ^ m) right (reached_inside h sound marks 0 base_low)
+  reached_small = subst (λ m. reached_from h.links marks 0 < 2 ^ m) right (reached_inside h.stations h.links sound.proper sound.few sound.sized marks 0 base_low)
 
   holds_all : (other : ℕ) → FeedMember n other → Unentered h.links marks other → Part other (others n (reached_from h.links marks 0))
   holds_all other member out =
       subst (Part other) rest_is
-      (not_reached_greatest h sound marks 0 base_low other (subst (λ m. other < 2 ^ m) (sym right) member.inside) member.without_base out)
+      (not_reached_greatest h.stations h.links sound.proper sound.few sound.sized marks 0 base_low other (subst (λ m. other < 2 ^ m) (sym right) member.inside) member.without_base out)
 
   lacks_base : has (others n (reached_from h.links marks 0)) 0 ≡ false
   lacks_base =
       ⊎_elim (λ base. absurd (both_ways (has (reached_from h.links marks 0) 0) (others_apart n (reached_from h.links marks 0) reached_small 0 (has→In (others n (reached_from h.links marks 0)) 0 base))
-      (In→has (reached_from h.links marks 0) 0 (reached_has_it h sound marks 0 base_low))))
+      (In→has (reached_from h.links marks 0) 0 (reached_has_it h.stations h.links sound.proper sound.few sound.sized marks 0 base_low))))
       (λ lacks. lacks) (cases_Bool (has (others n (reached_from h.links marks 0)) 0))
 
   -- the answer, by whether anything is left
@@ -218,7 +218,7 @@ module _ (n : ℕ) (h : Held) (marks : List ℕ) (sound : Sound h) (right : h.st
       subst (Largest (FeedMember n) h.links marks) found.0
       (record {
         member = record { inside = others_inside n (reached_from h.links marks 0) reached_small; some = λ z. found.1 (sym found.0 ∙ z); without_base = lacks_base };
-        unentered = subst (Unentered h.links marks) rest_is (not_reached_unentered h sound marks 0 base_low);
+        unentered = subst (Unentered h.links marks) rest_is (not_reached_unentered h.stations h.links sound.proper sound.few sound.sized marks 0 base_low);
         no_whole = λ other member out part. Part-antisym other (others n (reached_from h.links marks 0)) (holds_all other member out) part;
       })
 

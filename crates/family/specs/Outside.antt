@@ -1,6 +1,6 @@
 -- The stations outside a set; the stations not reached from a start are the greatest set without it
 -- that no marked link enters; and whether a set is entered can be searched. By digits, place by place.
-use Rattle.std.specs.Prelude.{◌≡◌, ℕ, zero, suc, ◌^◌, ◌<◌, Bool, true, false, ◌&&◌, ◌⊎◌, List, length, None}
+use Rattle.std.specs.Prelude.{◌≡◌, ℕ, zero, suc, ◌^◌, ◌<◌, ◌≤◌, Bool, true, false, ◌&&◌, ◌⊎◌, List, length, None}
 use Rattle.std.proofs.Common.{inl, inr, ⊎_elim, ap, subst, arith}
 use Rattle.std.proofs.lemmas.Nat.{pow_pos}
 use Rattle.std.proofs.lemmas.List.{get_or_past}
@@ -9,8 +9,7 @@ use Rattle.stations.specs.Sets.{In, Part, has}
 use Rattle.stations.proofs.Digits.{has→In, In→has, lacks→out, out→lacks, digit_not, In-below}
 use Rattle.digraph.specs.Entering.{marked, enters, enters_at, Entered}
 use Rattle.digraph.specs.Links.{Slots}
-use Rattle.sheet.specs.Held.{Held}
-use Rattle.sheet.specs.Sound.{Sound}
+use Rattle.digraph.specs.Links.{Proper}
 use Rattle.family.specs.Choices.{others}
 use Rattle.family.specs.Laws.{Unentered}
 use Rattle.family.specs.Reach.{reached_from}
@@ -48,18 +47,18 @@ entered_if_not_unentered slots marks set not_out =
     none_at : ((k : ℕ) → k < length slots → (marked marks k && enters_at slots k set) ≡ false) → (k : ℕ) → enters_at slots k set ≡ true → (marked marks k && enters_at slots k set) ≡ false
     none_at none k e = ⊎_elim (none k) (λ past. absurd (both_ways (enters_at slots k set) (ap (λ o. enters o set) (get_or_past slots k None past)) e)) (cases_lt k (length slots))
 
-module _ (t : Held) (sound : Sound t) (marks : List ℕ) (s : ℕ) (station : s < t.stations) where
-  inside : reached_from t.links marks s < 2 ^ t.stations
-  inside = reached_inside t sound marks s station
+module _ (n : ℕ) (slots : Slots) (proper : Proper n slots) (few : n ≤ 40) (sized : length slots ≡ 200) (marks : List ℕ) (s : ℕ) (station : s < n) where
+  inside : reached_from slots marks s < 2 ^ n
+  inside = reached_inside n slots proper few sized marks s station
 
-  pub not_reached_unentered : Unentered t.links marks (others t.stations (reached_from t.links marks s))
+  pub not_reached_unentered : Unentered slots marks (others n (reached_from slots marks s))
   not_reached_unentered =
-      outside_closed_is_unentered t sound marks (reached_from t.links marks s) (others t.stations (reached_from t.links marks s))
-      (reached_closed t sound marks s station) (others_apart t.stations (reached_from t.links marks s) inside) (others_all t.stations (reached_from t.links marks s) inside)
+      outside_closed_is_unentered n slots proper few sized marks (reached_from slots marks s) (others n (reached_from slots marks s))
+      (reached_closed n slots proper few sized marks s station) (others_apart n (reached_from slots marks s) inside) (others_all n (reached_from slots marks s) inside)
 
-  pub not_reached_greatest : (x : ℕ) → x < 2 ^ t.stations → has x s ≡ false → Unentered t.links marks x → Part x (others t.stations (reached_from t.links marks s))
+  pub not_reached_greatest : (x : ℕ) → x < 2 ^ n → has x s ≡ false → Unentered slots marks x → Part x (others n (reached_from slots marks s))
   not_reached_greatest x small without out v h =
-      others_all t.stations (reached_from t.links marks s) inside v (In-below t.stations x v small h)
-      (⊎_elim (λ reached. absurd (both_ways (has x v) (others_apart t.stations x small v (reached_least t sound marks s station (others t.stations x) (others_all t.stations x small s station without)
-      (outside_unentered_is_closed t sound marks x (others t.stations x) out (others_apart t.stations x small) (others_all t.stations x small)) v (has→In (reached_from t.links marks s) v reached))) (In→has x v h)))
-      (λ lacks. lacks) (cases_Bool (has (reached_from t.links marks s) v)))
+      others_all n (reached_from slots marks s) inside v (In-below n x v small h)
+      (⊎_elim (λ reached. absurd (both_ways (has x v) (others_apart n x small v (reached_least n slots proper few sized marks s station (others n x) (others_all n x small s station without)
+      (outside_unentered_is_closed n slots proper few sized marks x (others n x) out (others_apart n x small) (others_all n x small)) v (has→In (reached_from slots marks s) v reached))) (In→has x v h)))
+      (λ lacks. lacks) (cases_Bool (has (reached_from slots marks s) v)))

@@ -1,16 +1,16 @@
 -- What the sets `reaching` and `reached_from` are: the least set around a station that no marked link
 -- enters, or leaves, and just the stations at the other ends of paths. From what a search over the masks finds.
-use Rattle.std.specs.Prelude.{ℕ, ◌-◌, ◌^◌, ◌<◌, List, Decides, slice_index}
+use Rattle.std.specs.Prelude.{◌≡◌, ℕ, ◌-◌, ◌^◌, ◌<◌, ◌≤◌, List, length, Decides, slice_index}
 use Rattle.std.proofs.Common.{arith}
 use Rattle.std.proofs.lemmas.Nat.{pow_pos}
 use Rattle.stations.specs.Sets.{In, Part, has}
 use Rattle.stations.proofs.Digits.{digit_ones_below, Part→≤}
+use Rattle.digraph.specs.Links.{Slots}
 use Rattle.digraph.specs.Paths.{Path, stay, step}
 use Rattle.digraph.specs.Search.{Next, Closed}
 use Rattle.digraph.proofs.Walks.{path_by_other_steps}
 use Rattle.digraph.proofs.Widening.{reach_set_has_start, reach_set_closed, reach_set_least}
-use Rattle.sheet.specs.Held.{Held}
-use Rattle.sheet.specs.Sound.{Sound}
+use Rattle.digraph.specs.Links.{Proper}
 use Rattle.family.specs.Laws.{Unentered}
 use Rattle.family.specs.Reach.{MarkedStep, marked_steps, reaching, reached_from}
 use Rattle.family.specs.declared.reach.Direction.TheVariants.{Forth, Back}
@@ -29,56 +29,56 @@ path_back turn (step {u = u} {v = v} p e) = path_from_step (turn u v e) (path_ba
 part_below : (n m : ℕ) → Part m (2 ^ n - 1) → m < 2 ^ n
 part_below n m part = omega (arith, Part→≤ m (2 ^ n - 1) part, pow_pos n)
 
-module _ (t : Held) (sound : Sound t) (marks : List ℕ) (v : ℕ) (station : v < t.stations) where
-  low : (u : ℕ) → slice_index (marked_steps Back t.links marks) u < 2 ^ 40
-  low = marked_steps_low t sound marks Back
+module _ (n : ℕ) (slots : Slots) (proper : Proper n slots) (few : n ≤ 40) (sized : length slots ≡ 200) (marks : List ℕ) (v : ℕ) (station : v < n) where
+  low : (u : ℕ) → slice_index (marked_steps Back slots marks) u < 2 ^ 40
+  low = marked_steps_low n slots proper few sized marks Back
 
-  pub reaching_has_it : In (reaching t.links marks v) v
-  reaching_has_it = reach_set_has_start (marked_steps Back t.links marks) v
+  pub reaching_has_it : In (reaching slots marks v) v
+  reaching_has_it = reach_set_has_start (marked_steps Back slots marks) v
 
-  reaching_closed : Closed (marked_steps Back t.links marks) (reaching t.links marks v)
-  reaching_closed = reach_set_closed (marked_steps Back t.links marks) low v (omega (arith, sound.few))
+  reaching_closed : Closed (marked_steps Back slots marks) (reaching slots marks v)
+  reaching_closed = reach_set_closed (marked_steps Back slots marks) low v (omega arith)
 
-  pub reaching_unentered : Unentered t.links marks (reaching t.links marks v)
-  reaching_unentered = closed_is_unentered t sound marks (reaching t.links marks v) reaching_closed
+  pub reaching_unentered : Unentered slots marks (reaching slots marks v)
+  reaching_unentered = closed_is_unentered n slots proper few sized marks (reaching slots marks v) reaching_closed
 
-  pub reaching_least : (z : ℕ) → In z v → Unentered t.links marks z → Part (reaching t.links marks v) z
-  reaching_least z held out = reach_set_least (marked_steps Back t.links marks) v z held (unentered_is_closed t sound marks z out)
+  pub reaching_least : (z : ℕ) → In z v → Unentered slots marks z → Part (reaching slots marks v) z
+  reaching_least z held out = reach_set_least (marked_steps Back slots marks) v z held (unentered_is_closed n slots proper few sized marks z out)
 
   -- stations alone are reached: no step leads away from all of them
-  steps_stay : Closed (marked_steps Back t.links marks) (2 ^ t.stations - 1)
-  steps_stay a b h next = let (k, m, q) = next_is_way t sound marks Back a b next in digit_ones_below t.stations b (sound.proper k _ q).0
+  steps_stay : Closed (marked_steps Back slots marks) (2 ^ n - 1)
+  steps_stay a b h next = let (k, m, q) = next_is_way n slots proper few sized marks Back a b next in digit_ones_below n b (proper k _ q).0
 
-  pub reaching_inside : reaching t.links marks v < 2 ^ t.stations
-  reaching_inside = part_below t.stations (reaching t.links marks v) (reach_set_least (marked_steps Back t.links marks) v (2 ^ t.stations - 1) (digit_ones_below t.stations v station) steps_stay)
+  pub reaching_inside : reaching slots marks v < 2 ^ n
+  reaching_inside = part_below n (reaching slots marks v) (reach_set_least (marked_steps Back slots marks) v (2 ^ n - 1) (digit_ones_below n v station) steps_stay)
 
-  pub paths_to : (r u : ℕ) → Decides (has r u) (Path (Next (marked_steps Back t.links marks)) v u) → Decides (has r u) (Path (MarkedStep t.links marks) u v)
+  pub paths_to : (r u : ℕ) → Decides (has r u) (Path (Next (marked_steps Back slots marks)) v u) → Decides (has r u) (Path (MarkedStep slots marks) u v)
   paths_to r u d = (
-    λ e. path_back (next_is_way t sound marks Back) (d.0 e),
-    λ p. d.1 (path_back (λ a b s. way_is_next t sound marks Back b a s) p),
+    λ e. path_back (next_is_way n slots proper few sized marks Back) (d.0 e),
+    λ p. d.1 (path_back (λ a b s. way_is_next n slots proper few sized marks Back b a s) p),
   )
 
-module _ (t : Held) (sound : Sound t) (marks : List ℕ) (s : ℕ) (station : s < t.stations) where
-  low_forth : (u : ℕ) → slice_index (marked_steps Forth t.links marks) u < 2 ^ 40
-  low_forth = marked_steps_low t sound marks Forth
+module _ (n : ℕ) (slots : Slots) (proper : Proper n slots) (few : n ≤ 40) (sized : length slots ≡ 200) (marks : List ℕ) (s : ℕ) (station : s < n) where
+  low_forth : (u : ℕ) → slice_index (marked_steps Forth slots marks) u < 2 ^ 40
+  low_forth = marked_steps_low n slots proper few sized marks Forth
 
-  pub reached_has_it : In (reached_from t.links marks s) s
-  reached_has_it = reach_set_has_start (marked_steps Forth t.links marks) s
+  pub reached_has_it : In (reached_from slots marks s) s
+  reached_has_it = reach_set_has_start (marked_steps Forth slots marks) s
 
-  pub reached_closed : Closed (marked_steps Forth t.links marks) (reached_from t.links marks s)
-  reached_closed = reach_set_closed (marked_steps Forth t.links marks) low_forth s (omega (arith, sound.few))
+  pub reached_closed : Closed (marked_steps Forth slots marks) (reached_from slots marks s)
+  reached_closed = reach_set_closed (marked_steps Forth slots marks) low_forth s (omega arith)
 
-  pub reached_least : (z : ℕ) → In z s → Closed (marked_steps Forth t.links marks) z → Part (reached_from t.links marks s) z
-  reached_least z held closed = reach_set_least (marked_steps Forth t.links marks) s z held closed
+  pub reached_least : (z : ℕ) → In z s → Closed (marked_steps Forth slots marks) z → Part (reached_from slots marks s) z
+  reached_least z held closed = reach_set_least (marked_steps Forth slots marks) s z held closed
 
-  steps_stay_forth : Closed (marked_steps Forth t.links marks) (2 ^ t.stations - 1)
-  steps_stay_forth a b h next = let (k, m, q) = next_is_way t sound marks Forth a b next in digit_ones_below t.stations b (sound.proper k _ q).1
+  steps_stay_forth : Closed (marked_steps Forth slots marks) (2 ^ n - 1)
+  steps_stay_forth a b h next = let (k, m, q) = next_is_way n slots proper few sized marks Forth a b next in digit_ones_below n b (proper k _ q).1
 
-  pub reached_inside : reached_from t.links marks s < 2 ^ t.stations
-  reached_inside = part_below t.stations (reached_from t.links marks s) (reach_set_least (marked_steps Forth t.links marks) s (2 ^ t.stations - 1) (digit_ones_below t.stations s station) steps_stay_forth)
+  pub reached_inside : reached_from slots marks s < 2 ^ n
+  reached_inside = part_below n (reached_from slots marks s) (reach_set_least (marked_steps Forth slots marks) s (2 ^ n - 1) (digit_ones_below n s station) steps_stay_forth)
 
-  pub paths_from : (r v : ℕ) → Decides (has r v) (Path (Next (marked_steps Forth t.links marks)) s v) → Decides (has r v) (Path (MarkedStep t.links marks) s v)
+  pub paths_from : (r v : ℕ) → Decides (has r v) (Path (Next (marked_steps Forth slots marks)) s v) → Decides (has r v) (Path (MarkedStep slots marks) s v)
   paths_from r v d = (
-    λ e. path_by_other_steps (next_is_way t sound marks Forth) (d.0 e),
-    λ p. d.1 (path_by_other_steps (way_is_next t sound marks Forth) p),
+    λ e. path_by_other_steps (next_is_way n slots proper few sized marks Forth) (d.0 e),
+    λ p. d.1 (path_by_other_steps (way_is_next n slots proper few sized marks Forth) p),
   )

@@ -71,7 +71,7 @@ module _ (n s t : ℕ) (start_low : s < n) (end_low : t < n) (h : Held) (marks :
 
   -- the set around the end lies inside every unentered member
   around_end : (x : ℕ) → RouteMember n s t x → Unentered h.links marks x → Part (reaching h.links marks t) x
-  around_end x member out = reaching_least h sound marks t end_in x (has→In x t member.with_end) out
+  around_end x member out = reaching_least h.stations h.links sound.proper sound.few sound.sized marks t end_in x (has→In x t member.with_end) out
 
   pub route_smallest_found : (set : ℕ) → route_smallest n s t h marks ≡ Some set → Smallest (RouteMember n s t) h.links marks set
   route_smallest_found set e =
@@ -80,11 +80,11 @@ module _ (n s t : ℕ) (start_low : s < n) (end_low : t < n) (h : Held) (marks :
       (record {
         member =
             record {
-              inside = subst (λ m. reaching h.links marks t < 2 ^ m) right (reaching_inside h sound marks t end_in);
-              with_end = In→has (reaching h.links marks t) t (reaching_has_it h sound marks t end_in);
+              inside = subst (λ m. reaching h.links marks t < 2 ^ m) right (reaching_inside h.stations h.links sound.proper sound.few sound.sized marks t end_in);
+              with_end = In→has (reaching h.links marks t) t (reaching_has_it h.stations h.links sound.proper sound.few sound.sized marks t end_in);
               without_start = found.0;
             };
-        unentered = reaching_unentered h sound marks t end_in;
+        unentered = reaching_unentered h.stations h.links sound.proper sound.few sound.sized marks t end_in;
         no_part = λ other member out part. Part-antisym other (reaching h.links marks t) part (around_end other member out);
       })
 
@@ -98,17 +98,17 @@ module _ (n s t : ℕ) (start_low : s < n) (end_low : t < n) (h : Held) (marks :
   rest_is = ap (λ m. others m (reached_from h.links marks s)) right
 
   reached_small : reached_from h.links marks s < 2 ^ n
-  reached_small = subst (λ m. reached_from h.links marks s < 2 ^ m) right (reached_inside h sound marks s start_in)
+  reached_small = subst (λ m. reached_from h.links marks s < 2 ^ m) right (reached_inside h.stations h.links sound.proper sound.few sound.sized marks s start_in)
 
   holds_all : (other : ℕ) → RouteMember n s t other → Unentered h.links marks other → Part other (others n (reached_from h.links marks s))
   holds_all other member out =
       subst (Part other) rest_is
-      (not_reached_greatest h sound marks s start_in other (subst (λ m. other < 2 ^ m) (sym right) member.inside) member.without_start out)
+      (not_reached_greatest h.stations h.links sound.proper sound.few sound.sized marks s start_in other (subst (λ m. other < 2 ^ m) (sym right) member.inside) member.without_start out)
 
   lacks_start : has (others n (reached_from h.links marks s)) s ≡ false
   lacks_start =
       ⊎_elim (λ held. absurd (both_ways (has (reached_from h.links marks s) s) (others_apart n (reached_from h.links marks s) reached_small s (has→In (others n (reached_from h.links marks s)) s held))
-      (In→has (reached_from h.links marks s) s (reached_has_it h sound marks s start_in))))
+      (In→has (reached_from h.links marks s) s (reached_has_it h.stations h.links sound.proper sound.few sound.sized marks s start_in))))
       (λ lacks. lacks) (cases_Bool (has (others n (reached_from h.links marks s)) s))
 
   pub route_largest_found : (set : ℕ) → route_largest n s t h marks ≡ Some set → Largest (RouteMember n s t) h.links marks set
@@ -118,7 +118,7 @@ module _ (n s t : ℕ) (start_low : s < n) (end_low : t < n) (h : Held) (marks :
       subst (Largest (RouteMember n s t) h.links marks) found.1
       (record {
         member = record { inside = others_inside n (reached_from h.links marks s) reached_small; with_end = found.0; without_start = lacks_start };
-        unentered = subst (Unentered h.links marks) rest_is (not_reached_unentered h sound marks s start_in);
+        unentered = subst (Unentered h.links marks) rest_is (not_reached_unentered h.stations h.links sound.proper sound.few sound.sized marks s start_in);
         no_whole = λ other member out part. Part-antisym other rest (holds_all other member out) part;
       })
 

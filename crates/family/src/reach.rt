@@ -39,10 +39,10 @@ fn marked(sheet: &Sheet, marks: &[u8; LINKS], way: Direction, k: u16) -> Option<
     requires { k < 200 }
     ensures { result ≡ marked_link way (held sheet.now).links marks.now k }
 {
-    sheet
-        .link(k)
-        .filter(|_| marks[k as usize] != 0)
-        .map(|link| way.turn(link))
+    if marks[k as usize] == 0 {
+        return None;
+    }
+    sheet.link(k).map(|link| way.turn(link))
 }
 
 /// For each station the stations one step along a marked link from it.

@@ -18,7 +18,7 @@ marked_steps_sized way h marks = steps_sized (map (marked_link way h.links marks
 pub marked_steps_inside : (way : Direction) (h : Held) (marks : List ℕ) → Sound h → Inside h.stations (marked_steps way h.links marks)
 marked_steps_inside way h marks sound u low =
     let part = Part→≤ (get_or (marked_steps way h.links marks) u 0) (2 ^ h.stations - 1)
-    (λ v at. digit_ones_below h.stations v (to_station way v (next_is_way h sound marks way u v at))) in
+    (λ v at. digit_ones_below h.stations v (to_station way v (next_is_way h.stations h.links sound.proper sound.few sound.sized marks way u v at))) in
     omega (arith, pow_pos h.stations)
   where
     to_station : (way : Direction) (v : ℕ) → Way way h.links marks u v → v < h.stations

@@ -60,24 +60,24 @@ module _ (t h : Held) (sound : Sound t) (tree : SpanningTree t.stations t.links 
   step→back v a b s = either→beside t sound tree Back v (steps Back) (marked_steps_sized Back h marks) b a (go s)
     where
       go : StepBeside t h marks v a b → Next (steps Back) b a ⊎ OtherLink t v a b
-      go (inl m) = inl (way_is_next h asked marks Back b a m)
+      go (inl m) = inl (way_is_next h.stations h.links asked.proper asked.few asked.sized marks Back b a m)
       go (inr (ne, along)) = inr (along→other v a b ne along)
 
   back→step : (v a b : ℕ) → Next (beside Back t (steps Back) v) b a → StepBeside t h marks v a b
   back→step v a b next =
-      ⊎_elim (λ m. inl (next_is_way h asked marks Back b a m)) (λ o. inr (o.not_it, other→along v a b o))
+      ⊎_elim (λ m. inl (next_is_way h.stations h.links asked.proper asked.few asked.sized marks Back b a m)) (λ o. inr (o.not_it, other→along v a b o))
       (beside→either t sound tree Back v (steps Back) (marked_steps_sized Back h marks) b a next)
 
   pub step→forth : (v a b : ℕ) → StepBeside t h marks v a b → Next (beside Forth t (steps Forth) v) a b
   step→forth v a b s = either→beside t sound tree Forth v (steps Forth) (marked_steps_sized Forth h marks) a b (go s)
     where
       go : StepBeside t h marks v a b → Next (steps Forth) a b ⊎ OtherLink t v a b
-      go (inl m) = inl (way_is_next h asked marks Forth a b m)
+      go (inl m) = inl (way_is_next h.stations h.links asked.proper asked.few asked.sized marks Forth a b m)
       go (inr (ne, along)) = inr (along→other v a b ne along)
 
   forth→step : (v a b : ℕ) → Next (beside Forth t (steps Forth) v) a b → StepBeside t h marks v a b
   forth→step v a b next =
-      ⊎_elim (λ m. inl (next_is_way h asked marks Forth a b m)) (λ o. inr (o.not_it, other→along v a b o))
+      ⊎_elim (λ m. inl (next_is_way h.stations h.links asked.proper asked.few asked.sized marks Forth a b m)) (λ o. inr (o.not_it, other→along v a b o))
       (beside→either t sound tree Forth v (steps Forth) (marked_steps_sized Forth h marks) a b next)
 
   low : (way : Direction) (v u : ℕ) → get_or (beside way t (steps way) v) u 0 < 2 ^ 40

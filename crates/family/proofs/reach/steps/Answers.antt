@@ -4,8 +4,6 @@ use Rattle.std.proofs.lemmas.List.FromFn.{get_or-map-range_with_len, length-map-
 use Rattle.std.proofs.lemmas.List.{drop_all}
 use Rattle.digraph.specs.Steps.{Low, steps_from}
 use Rattle.digraph.proofs.Stepping.{steps_one_on}
-use Rattle.sheet.specs.Held.{held}
-use Rattle.sheet.proofs.Sounds.{sheet_is_sound}
 use Rattle.family.specs.Reach.{marked_link, marked_steps}
 use Rattle.family.specs.Marking.{marked_link_low}
 use Rattle.family.proofs.reach.steps.Goals as goal
@@ -13,7 +11,7 @@ use Rattle.family.proofs.reach.steps.Goals as goal
 pub add-requires : goal.add-requires
 add-requires c =
     let s = c.args.sheet.now in
-    subst Low (sym c.marked.ensures) (marked_link_low (held s) (sheet_is_sound s) c.args.marks.now c.args.way c.loop-k.k)
+    subst Low (sym c.marked.ensures) (marked_link_low s.stations.count s.links.slots s.proper s.stations.few s.links.sized c.args.marks.now c.args.way c.loop-k.k)
 
 pub loop-k-init : goal.loop-k-init
 loop-k-init c = ap (λ m. steps_from m (map (marked_link c.args.way c.args.sheet.now.links.slots c.args.marks.now) (range_with_len 0 200))) c.none-steps.ensures
