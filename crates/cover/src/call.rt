@@ -13,6 +13,7 @@ ghost use Rattle.cover.specs.Filled.{Filled, Small};
 use crate::checks::check_family;
 use crate::in_stages::{Cover, find_cover};
 use crate::memory::CoverMemory;
+pub use crate::memory::SETS;
 use crate::question::Question;
 use amount::kind::Amount;
 use family::interface::Family;
