@@ -38,10 +38,7 @@ pub fn cover<T: Amount, F: Family>(
     ensures cheapest { IfOk result (λ c. CheapestCover (cover_asked T.Amount F.Family sheet.now prices.now family.now) (F.member family.now) memory.new.marks.now (T.parts c.cost)) }
 {
     sheet.check_column(prices)?;
-    if !memory.fits() {
-        return Err(Refusal::MemorySize);
-    }
-    check_family(sheet, family)?;
+    check_family(sheet, family, memory.fits())?;
     let question = Question {
         sheet,
         prices,
