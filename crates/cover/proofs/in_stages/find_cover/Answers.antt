@@ -72,7 +72,7 @@ returns g c =
     c.cost_of_marked.ensures ∙ cost_is s.stations.count a Member L sets p.ensures.stops order p.ensures.order c.take-kept.result c.take-kept.ensures c.keep.new.marks c.keep.ensures in
     let copied = c.copy_from_slice.ensures.after in
     record {
-      same_memory = record { left = refl; sets = refl; amounts = refl; marks = refl };
+      same_memory = record { left = refl; sets = refl; amounts = refl; marks = refl; left_length = p.auto.left; sets_length = p.auto.sets; amounts_length = p.auto.amounts; marks_length = c.copy_from_slice.auto.self };
       filled =
           record {
             packing = p.ensures.filled;

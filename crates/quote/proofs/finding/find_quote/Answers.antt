@@ -104,7 +104,7 @@ returns g c =
     let total-is = c.cost_of_listed-tree_cost.ensures ∙ ap (cost_of_list w (shown (map parts prices))) c.tree_links.ensures in
     let lengths = quote_lengths (quote_contents c.args.memory.now) c.requires.memory in
     record {
-      same_memory = record { cover = cover.ensures.same_memory; revised = refl };
+      same_memory = record { cover = cover.ensures.same_memory; revised = refl; revised_length = c.revise.auto.revised };
       filled = quote_filled parts w h sound has_tree prices long c.args.question.now.ready.links_priced is_wide old new cover.result.sets cost filled total (parts c.minus.result) total-is c.minus.ensures
           entry c.revise.new.revised lengths.2 c.revise.auto.revised c.revise.ensures.lowered c.revise.ensures.others;
       small = small_here g f s c.requires.family prices cover.new.memory.left.now cover.new.memory.amounts.now cover.new.memory.sets.now cover.result.sets cover.ensures.small;
