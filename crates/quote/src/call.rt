@@ -13,7 +13,6 @@ ghost use Rattle.quote.specs.Trees.{KeepsTheTree, NoSmallerConcession};
 use crate::finding::{Quote, find_quote};
 use crate::memory::QuoteMemory;
 use amount::kind::Amount;
-use cover::question::Question;
 use refusal::Refusal;
 use sheet::Sheet;
 use tree_family::tree::TreeFamily;
@@ -42,10 +41,5 @@ pub fn quote<T: Amount>(
     let Some(family) = TreeFamily::of(sheet) else {
         return Err(Refusal::NoTree);
     };
-    let question = Question {
-        sheet,
-        prices,
-        family: &family,
-    };
-    Ok(find_quote(&question, memory))
+    Ok(find_quote(sheet, prices, &family, memory))
 }
