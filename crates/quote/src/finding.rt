@@ -1,7 +1,6 @@
 //! A quote, once nothing turned it back.
 ghost use Rattle.std.specs.Prelude.{◌≡◌, true, map, length};
 ghost use Rattle.cover.specs.Filled.{Small};
-ghost use Rattle.cover.specs.Lent.{contents};
 ghost use Rattle.sheet.specs.Calls.{priced};
 ghost use Rattle.sheet.specs.Held.{held};
 ghost use Rattle.quote.specs.Lent.{quote_contents, SameQuoteMemory};
@@ -14,6 +13,7 @@ use crate::revising::revise;
 use crate::tree_cost::cost_of_listed;
 use amount::kind::Amount;
 use cover::in_stages::find_cover;
+use cover::memory::CoverMemory;
 use cover::question::Question;
 use sheet::Sheet;
 use tree_family::tree::TreeFamily;
@@ -42,7 +42,7 @@ pub fn find_quote<T: Amount>(
     requires family { family.now.shape.rooted.sheet ≡ sheet.now }
     ensures same_memory { SameQuoteMemory memory.old memory.new }
     ensures filled { QuoteFilled T.parts T.width (held sheet.now) (map T.parts prices.now) (quote_contents memory.old) (quote_contents memory.new) result.sets (T.parts result.cost) (T.parts result.concession) }
-    ensures small { Small T.parts (quote_asked T.width (held sheet.now) (map T.parts prices.now)) (contents memory.new.cover).packing result.sets }
+    ensures small { Small T.parts (quote_asked T.width (held sheet.now) (map T.parts prices.now)) (quote_contents memory.new).cover.packing result.sets }
     ensures keeps { KeepsTheTree T.width (held sheet.now) (map T.parts prices.now) (map T.parts memory.new.revised.now) (T.parts result.concession) }
     ensures least { NoSmallerConcession T.width (held sheet.now) (map T.parts prices.now) (T.parts result.concession) }
 {
@@ -51,8 +51,14 @@ pub fn find_quote<T: Amount>(
         prices,
         family,
     };
-    let cover = find_cover(&question, &mut memory.cover);
-    revise(sheet, prices, &memory.cover, memory.revised);
+    let mut lent = CoverMemory {
+        left: memory.left,
+        sets: memory.sets,
+        amounts: memory.amounts,
+        marks: memory.marks,
+    };
+    let cover = find_cover(&question, &mut lent);
+    revise(sheet, prices, &lent, memory.revised);
     let tree_cost = cost_of_listed(prices, sheet.tree_links());
     Quote {
         concession: tree_cost.minus(cover.cost),

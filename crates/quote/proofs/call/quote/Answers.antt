@@ -17,7 +17,7 @@ returns-in_err-check_column g c =
     (record {
       refusal = sym (first_of_front (column_checks h ps) (tree_quote_checks h _) _ (sym c.in_err-check_column.ensures));
       untouched = λ _. refl;
-      same_memory = record { cover = record { left = refl; sets = refl; amounts = refl; marks = refl; left_length = refl; sets_length = refl; amounts_length = refl; marks_length = refl }; revised = refl; revised_length = refl };
+      same_memory = record { left = refl; sets = refl; amounts = refl; marks = refl; revised = refl; left_length = refl; sets_length = refl; amounts_length = refl; marks_length = refl; revised_length = refl };
       filled = tt;
       small = tt;
       keeps = tt;

@@ -1,4 +1,4 @@
-use Rattle.std.proofs.Common.{◌≡◌, ℕ, ◌<◌, ◌≤◌, true, List, [], map, length, get_or, ℤ, is_some, sym, refl, ap, ◌∙◌, subst, arith}
+use Rattle.std.proofs.Common.{◌≡◌, ℕ, ◌<◌, ◌≤◌, true, List, [], map, length, get_or, ℤ, is_some, sym, ap, ◌∙◌, subst, arith, rules}
 use Rattle.cover.specs.Filled.{Filled, Small}
 use Rattle.cover.specs.Lent.{contents}
 use Rattle.cover.specs.Memory.{Memory, room}
@@ -13,7 +13,7 @@ use Rattle.tree_family.specs.declared.tree.TreeFamily.{TreeFamily}
 use Rattle.amount.specs.Parts.{within}
 use Rattle.duality.specs.Trees.{cost_of_list}
 use Rattle.quote.specs.Lent.{quote_contents}
-use Rattle.quote.specs.Quotes.{quote_asked}
+use Rattle.quote.specs.Quotes.{quote_asked, QuoteFilled}
 use Rattle.quote.specs.Trees.{shown}
 use Rattle.quote.proofs.TreeQuotes.{tree_is_short, tree_link_placed}
 use Rattle.quote.proofs.Quoting.{quote_lengths, cover_ready, tree_difference_fits, tree_prices_small, quote_filled, quote_keeps, quote_least}
@@ -101,7 +101,7 @@ returns g c =
     let sound = sheet_is_sound s in
     let has_tree = planted f s c.requires.family in
     let is_wide = wide g prices c.requires.column in
-    let old = contents c.args.memory.now.cover in
+    let old = (quote_contents c.args.memory.now).cover in
     let new = contents cover.new.memory in
     let entry = c.args.memory.now.revised.now in
     let cost = parts cover.result.cost in
@@ -110,10 +110,12 @@ returns g c =
     let total-is = c.cost_of_listed-tree_cost.ensures ∙ ap (cost_of_list w (shown (map parts prices))) c.tree_links.ensures in
     let lengths = quote_lengths (quote_contents c.args.memory.now) c.requires.memory in
     record {
-      same_memory = record { cover = cover.ensures.same_memory; revised = refl; revised_length = c.revise.auto.revised };
-      filled = quote_filled parts w h sound has_tree prices c.requires.column c.requires.priced is_wide old new cover.result.sets cost filled total (parts c.minus.result) total-is c.minus.ensures
-          entry c.revise.new.revised lengths.2 c.revise.auto.revised c.revise.ensures.lowered c.revise.ensures.others;
-      small = small_here g f s c.requires.family prices cover.new.memory.left.now cover.new.memory.amounts.now cover.new.memory.sets.now cover.result.sets cover.ensures.small;
+      same_memory = search rules;
+      filled = subst (λ m. QuoteFilled parts w h (map parts prices) (quote_contents c.args.memory.now) (record { cover = m; revised = c.revise.new.revised }) cover.result.sets cost (parts c.minus.result)) (search rules)
+          (quote_filled parts w h sound has_tree prices c.requires.column c.requires.priced is_wide old new cover.result.sets cost filled total (parts c.minus.result) total-is c.minus.ensures
+          entry c.revise.new.revised lengths.2 c.revise.auto.revised c.revise.ensures.lowered c.revise.ensures.others);
+      small = subst (λ r. Small parts (quote_asked w h (map parts prices)) r cover.result.sets) (search rules)
+          (small_here g f s c.requires.family prices cover.new.memory.left.now cover.new.memory.amounts.now cover.new.memory.sets.now cover.result.sets cover.ensures.small);
       keeps = quote_keeps parts w h sound has_tree prices c.requires.column c.requires.priced is_wide old new cover.result.sets cost filled total (parts c.minus.result) total-is c.minus.ensures
           entry c.revise.new.revised lengths.2 c.revise.auto.revised c.revise.ensures.lowered c.revise.ensures.others;
       least = quote_least parts w h sound has_tree prices c.requires.column c.requires.priced is_wide old new cover.result.sets cost filled total (parts c.minus.result) total-is c.minus.ensures;
