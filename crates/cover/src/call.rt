@@ -13,6 +13,7 @@ ghost use Rattle.cover.specs.Filled.{Filled, Small};
 use crate::checks::check_family;
 use crate::in_stages::{Cover, find_cover};
 use crate::memory::CoverMemory;
+pub use crate::memory::SETS;
 use crate::question::Question;
 use amount::kind::Amount;
 use family::interface::Family;
@@ -37,10 +38,7 @@ pub fn cover<T: Amount, F: Family>(
     ensures cheapest { IfOk result (λ c. CheapestCover (cover_asked T.Amount F.Family sheet.now prices.now family.now) (F.member family.now) memory.new.marks.now (T.parts c.cost)) }
 {
     sheet.check_column(prices)?;
-    if !memory.fits() {
-        return Err(Refusal::MemorySize);
-    }
-    check_family(sheet, family)?;
+    check_family(sheet, family, memory.fits())?;
     let question = Question {
         sheet,
         prices,

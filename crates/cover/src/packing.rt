@@ -1,5 +1,5 @@
 //! Stage 1: sets with their amounts, until the links with nothing left enter every member.
-ghost use Rattle.std.specs.Prelude.{◌≡◌, true};
+ghost use Rattle.std.specs.Prelude.{◌≡◌, true, take};
 ghost use Rattle.stages.specs.Asked.{StopsAfter};
 ghost use Rattle.stages.specs.Packing.{answer_after, order_after};
 ghost use Rattle.cover.specs.Memory.{room, room_sized};
@@ -14,7 +14,7 @@ use remainders::tightest::tightest;
 use remainders::used_up::UsedUp;
 
 /// What stage 1 found: how many sets, and the links with nothing left.
-#[derive(Debug, PartialEq, Eq, Drop)]
+#[derive(Clone, Copy, Debug, PartialEq, Eq)]
 pub struct Packing {
     pub sets: usize,
     pub used: UsedUp,
@@ -32,7 +32,7 @@ pub fn pack<T: Amount, F: Family>(
 ) -> Packing
     requires { room_sized (room left.old sets.old amounts.old) ≡ true }
     ensures stops { StopsAfter (answer_after (asked question.now)) result.sets }
-    ensures order { result.used.order.items ≡ order_after (asked question.now) result.sets }
+    ensures order { take result.used.count result.used.order ≡ order_after (asked question.now) result.sets }
     ensures filled { RoomFilled T.parts (asked question.now) (room left.old sets.old amounts.old) (room left.new sets.new amounts.new) result.sets }
 {
     let sheet = question.sheet;

@@ -5,6 +5,7 @@ use Rattle.std.proofs.lemmas.Bool.{both_ways, cases_Bool}
 use Rattle.std.proofs.lemmas.Bool.Decides.{nat_tests}
 use Rattle.amount.specs.Parts.{minus, nothing, within, Fitting}
 use Rattle.cover.specs.Memory.{Memory, memory_sized, room}
+use Rattle.cover.specs.Ready.{Ready}
 use Rattle.cover.specs.Filled.{Filled, Small}
 use Rattle.cover.proofs.PackingProgress.{same_parts}
 use Rattle.cuts.specs.Families.{listed}
@@ -25,7 +26,7 @@ use Rattle.quote.specs.Quotes.{quote_asked, revised_price, tree_cost, QuoteFille
 use Rattle.quote.specs.Trees.{shown, NoSmallerConcession, KeepsTheTree}
 use Rattle.quote.proofs.Differences.{difference_fits, list_cost_same}
 use Rattle.quote.proofs.ListCosts.{cost_within_few}
-use Rattle.quote.proofs.TreeQuotes.{tree, tree_is_short, link_price_small}
+use Rattle.quote.proofs.TreeQuotes.{tree, none_left_out, tree_is_short, link_price_small}
 use Rattle.quote.proofs.Keeping.{no_smaller_concession, keeps_the_tree}
 
 -- what the column's checks that passed say
@@ -43,6 +44,9 @@ module _ {T : Type 0} (parts : T → List ℤ) (width : ℕ) (h : Held) (sound :
 
   sized : length (map parts prices) ≡ 200
   sized = length-map prices parts ∙ long
+
+  pub cover_ready : Ready h (quote_asked width h (map parts prices)) h.stations
+  cover_ready = record { column_sized = sized; links_priced = legal_all; same_stations = refl; all_entered = none_left_out h sound planted }
 
   price_small : (k : ℕ) → is_link h.links k ≡ true → within 100000 (shown (map parts prices) k) ≡ true
   price_small = link_price_small h sound planted width (map parts prices) sized legal_all wide

@@ -2,7 +2,6 @@
 ghost use Rattle.std.specs.Prelude.{◌≡◌, false, map, is_ok, IfOk};
 ghost use Rattle.std.specs.Result.{result_err};
 ghost use Rattle.cover.specs.Filled.{Small};
-ghost use Rattle.cover.specs.Lent.{contents};
 ghost use Rattle.refusal.specs.Checks.{first};
 ghost use Rattle.sheet.specs.Held.{held};
 ghost use Rattle.quote.specs.Lent.{quote_contents, SameQuoteMemory};
@@ -13,7 +12,6 @@ ghost use Rattle.quote.specs.Trees.{KeepsTheTree, NoSmallerConcession};
 use crate::finding::{Quote, find_quote};
 use crate::memory::QuoteMemory;
 use amount::kind::Amount;
-use cover::question::Question;
 use refusal::Refusal;
 use sheet::Sheet;
 use tree_family::tree::TreeFamily;
@@ -31,7 +29,7 @@ pub fn quote<T: Amount>(
     ensures untouched { is_ok result ≡ false → quote_contents memory.new ≡ quote_contents memory.old }
     ensures same_memory { SameQuoteMemory memory.old memory.new }
     ensures filled { IfOk result (λ q. QuoteFilled T.parts T.width (held sheet.now) (map T.parts prices.now) (quote_contents memory.old) (quote_contents memory.new) q.sets (T.parts q.cost) (T.parts q.concession)) }
-    ensures small { IfOk result (λ q. Small T.parts (quote_asked T.width (held sheet.now) (map T.parts prices.now)) (contents memory.new.cover).packing q.sets) }
+    ensures small { IfOk result (λ q. Small T.parts (quote_asked T.width (held sheet.now) (map T.parts prices.now)) (quote_contents memory.new).cover.packing q.sets) }
     ensures keeps { IfOk result (λ q. KeepsTheTree T.width (held sheet.now) (map T.parts prices.now) (map T.parts memory.new.revised.now) (T.parts q.concession)) }
     ensures least { IfOk result (λ q. NoSmallerConcession T.width (held sheet.now) (map T.parts prices.now) (T.parts q.concession)) }
 {
@@ -42,10 +40,5 @@ pub fn quote<T: Amount>(
     let Some(family) = TreeFamily::of(sheet) else {
         return Err(Refusal::NoTree);
     };
-    let question = Question {
-        sheet,
-        prices,
-        family: &family,
-    };
-    Ok(find_quote(&question, memory))
+    Ok(find_quote(sheet, prices, &family, memory))
 }

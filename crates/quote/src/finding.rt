@@ -1,7 +1,7 @@
 //! A quote, once nothing turned it back.
-ghost use Rattle.std.specs.Prelude.{◌≡◌, true, map};
+ghost use Rattle.std.specs.Prelude.{◌≡◌, true, map, length};
 ghost use Rattle.cover.specs.Filled.{Small};
-ghost use Rattle.cover.specs.Lent.{contents};
+ghost use Rattle.sheet.specs.Calls.{priced};
 ghost use Rattle.sheet.specs.Held.{held};
 ghost use Rattle.quote.specs.Lent.{quote_contents, SameQuoteMemory};
 ghost use Rattle.quote.specs.Memory.{quote_memory_sized};
@@ -13,7 +13,9 @@ use crate::revising::revise;
 use crate::tree_cost::cost_of_listed;
 use amount::kind::Amount;
 use cover::in_stages::find_cover;
+use cover::memory::CoverMemory;
 use cover::question::Question;
+use sheet::Sheet;
 use tree_family::tree::TreeFamily;
 
 /// What a quote answers.
@@ -28,26 +30,36 @@ pub struct Quote<T> {
 }
 
 /// Finds the cover of the tree family, and revises the prices of the tree's links by what it left.
-pub(crate) fn find_quote<T: Amount>(
-    question: &Question<'_, T, TreeFamily>,
+pub fn find_quote<T: Amount>(
+    sheet: &Sheet,
+    prices: &[T],
+    family: &TreeFamily,
     memory: &mut QuoteMemory<'_, T>,
 ) -> Quote<T>
+    requires column { length prices.now ≡ 200 }
+    requires priced { priced sheet.now.links.slots (map T.parts prices.now) ≡ true }
     requires memory { quote_memory_sized (quote_contents memory.old) ≡ true }
-    requires family { question.now.family.now.shape.rooted.sheet ≡ question.now.sheet.now }
+    requires family { family.now.shape.rooted.sheet ≡ sheet.now }
     ensures same_memory { SameQuoteMemory memory.old memory.new }
-    ensures filled { QuoteFilled T.parts T.width (held question.now.sheet.now) (map T.parts question.now.prices.now) (quote_contents memory.old) (quote_contents memory.new) result.sets (T.parts result.cost) (T.parts result.concession) }
-    ensures small { Small T.parts (quote_asked T.width (held question.now.sheet.now) (map T.parts question.now.prices.now)) (contents memory.new.cover).packing result.sets }
-    ensures keeps { KeepsTheTree T.width (held question.now.sheet.now) (map T.parts question.now.prices.now) (map T.parts memory.new.revised.now) (T.parts result.concession) }
-    ensures least { NoSmallerConcession T.width (held question.now.sheet.now) (map T.parts question.now.prices.now) (T.parts result.concession) }
+    ensures filled { QuoteFilled T.parts T.width (held sheet.now) (map T.parts prices.now) (quote_contents memory.old) (quote_contents memory.new) result.sets (T.parts result.cost) (T.parts result.concession) }
+    ensures small { Small T.parts (quote_asked T.width (held sheet.now) (map T.parts prices.now)) (quote_contents memory.new).cover.packing result.sets }
+    ensures keeps { KeepsTheTree T.width (held sheet.now) (map T.parts prices.now) (map T.parts memory.new.revised.now) (T.parts result.concession) }
+    ensures least { NoSmallerConcession T.width (held sheet.now) (map T.parts prices.now) (T.parts result.concession) }
 {
-    let cover = find_cover(question, &mut memory.cover);
-    revise(
-        question.sheet,
-        question.prices,
-        &memory.cover,
-        memory.revised,
-    );
-    let tree_cost = cost_of_listed(question.prices, question.sheet.tree_links());
+    let question = Question {
+        sheet,
+        prices,
+        family,
+    };
+    let mut lent = CoverMemory {
+        left: memory.left,
+        sets: memory.sets,
+        amounts: memory.amounts,
+        marks: memory.marks,
+    };
+    let cover = find_cover(&question, &mut lent);
+    revise(sheet, prices, &lent, memory.revised);
+    let tree_cost = cost_of_listed(prices, sheet.tree_links());
     Quote {
         concession: tree_cost.minus(cover.cost),
         cost: cover.cost,

@@ -16,6 +16,12 @@ unmarked_one_less (suc m ∷ ms) zero h e = absurd (omega arith)
 unmarked_one_less (zero ∷ ms) (suc k) h e = omega (arith, unmarked_one_less ms k (omega arith) e)
 unmarked_one_less (suc m ∷ ms) (suc k) h e = unmarked_one_less ms k (omega arith) e
 
+-- so there is room for one more number in the order, and the room that is left after it
+pub room_for_one : (marks : List ℕ) (count k : ℕ) → length marks ≡ 200 → count + unmarked marks ≡ 200 → k < 200 → get_or marks k 0 ≡ 0
+    → (count < 200) × (count + 1 + unmarked (set marks k 1) ≡ 200)
+room_for_one marks count k sized room within fresh =
+    let less = unmarked_one_less marks k (omega arith) fresh in (omega arith, omega arith)
+
 -- of the numbers below k those that pass the test are marked and stand in the order, after what there was
 pub record Noted (test : ℕ → Bool) (old_marks old_order : List ℕ) (k : ℕ) (marks order : List ℕ) : Type 0 where
   pub marking : Passed 0 k (λ j. cond (test j) 1 (get_or old_marks j 0)) (λ j. get_or old_marks j 0) marks

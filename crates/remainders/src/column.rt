@@ -2,7 +2,7 @@
 //!
 //! Columns are slices, and that they have 200 places is required: a proof keeps the length of a slice that
 //! a call writes, and forgets that of an array, so each array would ask for a clause on its length again.
-ghost use Rattle.std.specs.Prelude.{◌≡◌, ℕ, ◌<◌, true, false, [], ◌∷◌, ◌++◌, map, length, set, if◌then◌else◌, filter, ◌≢◌, slice_index, slice_index_or};
+ghost use Rattle.std.specs.Prelude.{◌≡◌, ℕ, ◌<◌, true, false, [], ◌∷◌, ◌++◌, map, length, take, set, if◌then◌else◌, filter, ◌≢◌, slice_index, slice_index_or};
 ghost use Rattle.std.specs.List.{range_with_len};
 ghost use Rattle.amount.specs.Parts.{minus, Fitting};
 ghost use Rattle.digraph.specs.Entering.{enters_at};
@@ -41,7 +41,7 @@ pub fn copy_prices<T: Amount>(sheet: &Sheet, prices: &[T], left: &mut [T])
 pub fn used_up_at_first<T: Amount>(sheet: &Sheet, left: &[T]) -> UsedUp
     requires { length left.now ≡ 200 }
     ensures marks { result.marks ≡ for_each (λ k. (if spent_link T.width sheet.now.links.slots (map T.parts left.now) k then 1 else 0)) }
-    ensures order { result.order.items ≡ filter (spent_link T.width sheet.now.links.slots (map T.parts left.now)) (range_with_len 0 200) }
+    ensures order { take result.count result.order ≡ filter (spent_link T.width sheet.now.links.slots (map T.parts left.now)) (range_with_len 0 200) }
 {
     let mut used = UsedUp::none();
     for k in 0..LINKS as u16 {
@@ -61,7 +61,7 @@ pub fn lower<T: Amount>(sheet: &Sheet, left: &mut [T], used: &mut UsedUp, set: u
     ensures lowered { (k : ℕ) → k < 200 → enters_at sheet.now.links.slots k set ≡ true → slice_index_or (map T.parts left.new) k [] ≡ minus (slice_index_or (map T.parts left.old) k []) (T.parts amount) }
     ensures others { (k : ℕ) (d : T) → enters_at sheet.now.links.slots k set ≡ false → slice_index_or left.new k d ≡ slice_index_or left.old k d }
     ensures marks { used.new.marks ≡ for_each (λ k. (if gone T.width sheet.now.links.slots (map T.parts left.old) set (T.parts amount) k then 1 else slice_index used.old.marks k)) }
-    ensures order { used.new.order.items ≡ used.old.order.items ++ filter (gone T.width sheet.now.links.slots (map T.parts left.old) set (T.parts amount)) (range_with_len 0 200) }
+    ensures order { take used.new.count used.new.order ≡ take used.old.count used.old.order ++ filter (gone T.width sheet.now.links.slots (map T.parts left.old) set (T.parts amount)) (range_with_len 0 200) }
 {
     for k in 0..LINKS as u16 {
         if link_enters(sheet, k, set) {
@@ -79,7 +79,7 @@ fn lower_link<T: Amount>(left: &mut [T], used: &mut UsedUp, k: u16, amount: T)
     ensures lowered { map T.parts left.new ≡ set (map T.parts left.old) k (minus (slice_index_or (map T.parts left.old) k []) (T.parts amount)) }
     ensures others { (j : ℕ) (d : T) → (j ≢ k) → slice_index_or left.new j d ≡ slice_index_or left.old j d }
     ensures marks { used.new.marks ≡ (if spent T.width (minus (slice_index_or (map T.parts left.old) k []) (T.parts amount)) then set used.old.marks k 1 else used.old.marks) }
-    ensures order { used.new.order.items ≡ used.old.order.items ++ (if spent T.width (minus (slice_index_or (map T.parts left.old) k []) (T.parts amount)) then k ∷ [] else []) }
+    ensures order { take used.new.count used.new.order ≡ take used.old.count used.old.order ++ (if spent T.width (minus (slice_index_or (map T.parts left.old) k []) (T.parts amount)) then k ∷ [] else []) }
 {
     let rest = left[k as usize].minus(amount);
     left[k as usize] = rest;

@@ -6,6 +6,7 @@ ghost use Rattle.run.specs.States.{state};
 use crate::calls::{Answer, Call, Outcome};
 use amount::kind::Amount;
 use cover::call::cover;
+use cover::memory::CoverMemory;
 use family::interface::Family;
 use quote::call::quote;
 use quote::memory::QuoteMemory;
@@ -47,7 +48,13 @@ pub fn make<T: Amount, F: Family>(
             Ok(Answer::Quoted(quoted))
         }
         Call::Cover { family } => {
-            let covered = cover(sheet, prices, family, &mut memory.cover)?;
+            let mut lent = CoverMemory {
+                left: memory.left,
+                sets: memory.sets,
+                amounts: memory.amounts,
+                marks: memory.marks,
+            };
+            let covered = cover(sheet, prices, family, &mut lent)?;
             Ok(Answer::Covered(covered))
         }
     }

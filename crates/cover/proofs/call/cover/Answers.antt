@@ -16,7 +16,7 @@ returns-in_err-check_column g c =
     (record {
       refusal = sym (first_of_front (column_checks h ps) (family_checks h (g.F.Family.small f h) (g.F.Family.size f) _) _ (sym c.in_err-check_column.ensures));
       untouched = λ _. refl;
-      same_memory = record { left = refl; sets = refl; amounts = refl; marks = refl };
+      same_memory = record { left = refl; sets = refl; amounts = refl; marks = refl; left_length = refl; sets_length = refl; amounts_length = refl; marks_length = refl };
       filled = tt;
       small = tt;
       cheapest = tt;

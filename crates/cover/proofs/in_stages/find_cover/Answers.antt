@@ -1,4 +1,4 @@
-use Rattle.std.proofs.Common.{◌≡◌, sym, refl, ap, ◌∙◌, subst}
+use Rattle.std.proofs.Common.{◌≡◌, take, sym, refl, ap, ◌∙◌, subst}
 use Rattle.std.proofs.lemmas.List.{length-map}
 use Rattle.stages.specs.Done.{Done}
 use Rattle.stages.specs.Theorems.{cost_in_force}
@@ -52,7 +52,7 @@ cost_of_marked-requires g c =
     record {
       sized = sym (length-map prices g.T.Amount.parts) ∙ c.args.question.now.ready.column_sized;
       small = marked_price_small s.stations.count (asked c.args.question.now) (g.F.Family.member f) (lawful g c.args.question.now) p.result.sets p.ensures.stops
-          p.result.used.order.items p.ensures.order c.take-kept.result c.take-kept.ensures c.keep.new.marks c.keep.ensures;
+          (take p.result.used.count p.result.used.order) p.ensures.order c.take-kept.result c.take-kept.ensures c.keep.new.marks c.keep.ensures;
     }
 
 pub returns : goal.returns
@@ -66,13 +66,13 @@ returns g c =
     let L = lawful g c.args.question.now in
     let p = c.pack-packing in
     let sets = p.result.sets in
-    let order = p.result.used.order.items in
+    let order = take p.result.used.count p.result.used.order in
     let done : Done a sets c.keep.new.marks = stages_done s.stations.count a Member L sets p.ensures.stops order p.ensures.order c.take-kept.result c.take-kept.ensures c.keep.new.marks c.keep.ensures in
     let cost : parts c.cost_of_marked.result ≡ cost_in_force a (marked c.keep.new.marks) =
     c.cost_of_marked.ensures ∙ cost_is s.stations.count a Member L sets p.ensures.stops order p.ensures.order c.take-kept.result c.take-kept.ensures c.keep.new.marks c.keep.ensures in
     let copied = c.copy_from_slice.ensures.after in
     record {
-      same_memory = record { left = refl; sets = refl; amounts = refl; marks = refl };
+      same_memory = record { left = refl; sets = refl; amounts = refl; marks = refl; left_length = p.auto.left; sets_length = p.auto.sets; amounts_length = p.auto.amounts; marks_length = c.copy_from_slice.auto.self };
       filled =
           record {
             packing = p.ensures.filled;

@@ -1,4 +1,4 @@
-use Rattle.std.proofs.Common.{◌≡◌, ◌+◌, ◌<◌, ◌≤◌, cond, map, length, get_or, Some, None, sym, refl, ap, ◌∙◌, arith, rules}
+use Rattle.std.proofs.Common.{◌≡◌, ◌+◌, ◌<◌, ◌≤◌, cond, map, length, get_or, take, Some, sym, refl, ap, ◌∙◌, arith, rules}
 use Rattle.std.proofs.lemmas.List.{length-map}
 use Rattle.sheet.specs.Held.{held}
 use Rattle.remainders.proofs.Reading.{get_or-map_read}
@@ -13,7 +13,7 @@ use Rattle.cover.proofs.PackingTurn.{has_room, some_is_tightest, link_placed, am
 use Rattle.cover.proofs.PackingProgress.{progress_at_first, progress_after, room_lengths, filled_from}
 use Rattle.cover.proofs.packing.pack.Given as given
 use Rattle.cover.proofs.packing.pack.Goals as goal
-use Rattle.cover.proofs.packing.pack.Goals.{In-Some-tightest, in-Some+in_default-tightest, in_default}
+use Rattle.cover.proofs.packing.pack.Goals.{In-Some-tightest}
 
 laws : (g : given.Over) (f : g.row.F.Denot) → LawfulFamily (g.F.Family.size f) (g.F.Family.member f) (g.F.Family.small f) (g.F.Family.large f)
 laws g f =
@@ -50,7 +50,7 @@ loop-set-init g c =
     progress_at_first parts s.stations.count (asked c.args.question.now) (g.F.Family.member f) (lawful g c.args.question.now) prices c.copy_prices.new.left refl
     (c.copy_prices.auto.left ∙ lengths.0 ∙ sym (sym (length-map prices parts) ∙ c.args.question.now.ready.column_sized))
     (λ k d link. c.copy_prices.ensures k d ∙ ap (λ b. cond b (get_or prices k d) (get_or c.args.left.now k d)) link)
-    c.args.sets.now c.args.amounts.now c.used_up_at_first-used.result.marks c.used_up_at_first-used.result.order.items
+    c.args.sets.now c.args.amounts.now c.used_up_at_first-used.result.marks (take c.used_up_at_first-used.result.count c.used_up_at_first-used.result.order)
     c.used_up_at_first-used.ensures.marks c.used_up_at_first-used.ensures.order
 
 pub tightest-requires : goal.tightest-requires
@@ -154,30 +154,30 @@ loop-set-preserved g c =
     let left = c.loop-set.left in
     progress_after parts s.stations.count (asked c.args.question.now) (g.F.Family.member f) (lawful_here g t)
     (room c.copy_prices.new.left c.args.sets.now c.args.amounts.now) left c.loop-set.sets c.loop-set.amounts c.loop-set.count
-    c.loop-set.used.marks c.loop-set.used.order.items c.loop-set.invariant c.in-Some.set (given_set g t)
+    c.loop-set.used.marks (take c.loop-set.used.count c.loop-set.used.order) c.loop-set.invariant c.in-Some.set (given_set g t)
     c.in-Some-tightest.link (found_link g t) c.index-left-link.result
     (get_or-map_read parts left c.in-Some-tightest.link c.index-left-link.result (link_in_column g t) c.index-left-link.is)
     (omega (arith, room_left g t, (lengths g t).1)) (room_for_amount g t)
-    c.lower.new.left c.lower.new.used.marks c.lower.new.used.order.items c.lower.auto.left
+    c.lower.new.left c.lower.new.used.marks (take c.lower.new.used.count c.lower.new.used.order) c.lower.auto.left
     c.lower.ensures.lowered c.lower.ensures.others c.lower.ensures.marks c.lower.ensures.order
 
 -- ---- the end
 
-pub returns : goal.returns
-returns g c =
+pub returns-in_default-tightest : goal.returns-in_default-tightest
+returns-in_default-tightest g c =
     let s = c.args.question.now.sheet.now in
     let f = c.args.question.now.family.now in
+    let P = c.loop-set.invariant in
+    absurd (some_is_tightest s.stations.count (asked c.args.question.now) (g.F.Family.member f) (lawful g c.args.question.now) c.loop-set.count P.before
+    c.loop-set.used.marks P.marks_show c.in-Some.set (sym c.smallest.ensures ∙ c.in-Some.is) (map g.T.Amount.parts c.loop-set.left) P.filled.left_written
+    (sym c.tightest.ensures ∙ c.in_default-tightest.is))
+
+pub returns-in_default : goal.returns-in_default
+returns-in_default g c =
     let a = asked c.args.question.now in
     let P = c.loop-set.invariant in
-    let none_left : a.smallest c.loop-set.used.marks ≡ None = elim c.match-smallest.branch [
-      | in-Some+in_default-tightest w ↦
-          absurd (some_is_tightest s.stations.count a (g.F.Family.member f) (lawful g c.args.question.now) c.loop-set.count P.before
-          c.loop-set.used.marks P.marks_show w.in-Some.set (sym c.smallest.ensures ∙ w.in-Some.is) (map g.T.Amount.parts c.loop-set.left) P.filled.left_written
-          (sym w.tightest.ensures ∙ w.in_default-tightest.is))
-      | in_default w ↦ sym c.smallest.ensures ∙ w.in_default.is
-    ] in
     record {
-      stops = record { before = P.before; none = ap a.smallest (sym P.marks_show) ∙ none_left };
+      stops = record { before = P.before; none = ap a.smallest (sym P.marks_show) ∙ sym c.smallest.ensures ∙ c.in_default.is };
       order = P.order_is;
       filled = filled_from g.T.Amount.parts a c.args.left.now c.copy_prices.new.left c.args.sets.now c.args.amounts.now
           (room c.loop-set.left c.loop-set.sets c.loop-set.amounts) c.loop-set.count c.copy_prices.auto.left

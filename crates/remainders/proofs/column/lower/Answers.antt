@@ -1,4 +1,4 @@
-use Rattle.std.proofs.Common.{◌≡◌, map, get_or, sym, refl, ap, ◌∙◌, arith}
+use Rattle.std.proofs.Common.{◌≡◌, map, get_or, take, sym, refl, ap, ◌∙◌, arith}
 use Rattle.std.proofs.lemmas.Bool.{cond-true}
 use Rattle.remainders.proofs.Lowering.{lowered_none, lowered_here, not_lowered_here, unmarked_ahead, fits_ahead}
 use Rattle.remainders.proofs.Noting.{noted_marks, noted_order}
@@ -9,7 +9,7 @@ pub loop-k-init : goal.loop-k-init
 loop-k-init g c =
     let f = g.T.Amount.parts in
     let used = c.args.used.now in
-    lowered_none f g.T.Amount.width c.args.sheet.now.links.slots c.args.set (f c.args.amount) c.args.left.now used.marks used.order.items
+    lowered_none f g.T.Amount.width c.args.sheet.now.links.slots c.args.set (f c.args.amount) c.args.left.now used.marks (take used.count used.order)
 
 pub lower_link-requires : goal.lower_link-requires
 lower_link-requires g c =
@@ -29,15 +29,15 @@ loop-k-preserved g c =
     let tested = sym c.link_enters.ensures in
     elim c.if-link_enters.branch [
       | then-link_enters w ↦
-          lowered_here _ _ _ _ _ _ _ _ k c.loop-k.left _ _ c.loop-k.invariant (omega (arith, c.loop-k.used.sized)) c.if-link_enters.left used.marks used.order.items
+          lowered_here _ _ _ _ _ _ _ _ k c.loop-k.left _ _ c.loop-k.invariant (omega (arith, c.loop-k.used.sized)) c.if-link_enters.left used.marks (take used.count used.order)
           (tested ∙ w.if-link_enters.true) (omega (arith, c.loop-k.auto.left, c.requires.sized))
           (ap (map g.T.Amount.parts) w.left-is ∙ w.lower_link.ensures.lowered)
           (λ j d other. ap (λ xs. get_or xs j d) w.left-is ∙ w.lower_link.ensures.others j d other)
           (ap (λ u. u.marks) w.used-is ∙ w.lower_link.ensures.marks)
-          (ap (λ u. u.order.items) w.used-is ∙ w.lower_link.ensures.order)
+          (ap (λ u. take u.count u.order) w.used-is ∙ w.lower_link.ensures.order)
       | else-link_enters w ↦
-          not_lowered_here _ _ _ _ _ _ _ _ k c.loop-k.left _ _ c.loop-k.invariant (omega (arith, c.loop-k.used.sized)) c.if-link_enters.left used.marks used.order.items
-          (tested ∙ w.if-link_enters.false) w.left-is (ap (λ u. u.marks) w.used-is) (ap (λ u. u.order.items) w.used-is)
+          not_lowered_here _ _ _ _ _ _ _ _ k c.loop-k.left _ _ c.loop-k.invariant (omega (arith, c.loop-k.used.sized)) c.if-link_enters.left used.marks (take used.count used.order)
+          (tested ∙ w.if-link_enters.false) w.left-is (ap (λ u. u.marks) w.used-is) (ap (λ u. take u.count u.order) w.used-is)
     ]
 
 pub returns : goal.returns

@@ -1,3 +1,4 @@
+use Rattle.std.proofs.Common.{take}
 use Rattle.remainders.proofs.Lowering.{Lowered}
 use Rattle.remainders.proofs.column.lower.Given as goal
 
@@ -6,4 +7,4 @@ abbrev pub invariant-loop-k : goal.invariant-loop-k
 invariant-loop-k g l =
     let f = g.T.Amount.parts in
     let used = l.initial.used in
-    Lowered f g.T.Amount.width l.sheet.links.slots l.set (f l.amount) l.initial.left used.marks used.order.items l.k l.left l.used.marks l.used.order.items
+    Lowered f g.T.Amount.width l.sheet.links.slots l.set (f l.amount) l.initial.left used.marks (take used.count used.order) l.k l.left l.used.marks (take l.used.count l.used.order)

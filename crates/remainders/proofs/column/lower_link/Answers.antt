@@ -1,4 +1,4 @@
-use Rattle.std.proofs.Common.{◌++◌, map, set, sym, ap, ◌∙◌, arith}
+use Rattle.std.proofs.Common.{◌++◌, map, take, set, sym, ap, ◌∙◌, arith}
 use Rattle.std.proofs.lemmas.List.{append-nil, get_or-set_other, map-set}
 use Rattle.std.proofs.lemmas.Bool.{cond-true, cond-false}
 use Rattle.remainders.specs.Column.{spent}
@@ -15,7 +15,7 @@ returns-then-is_spent g c =
       lowered = map-set f left c.args.k c.minus-rest.result ∙ ap (set (map f left) c.args.k) less;
       others = λ j d other. get_or-set_other left c.args.k j c.minus-rest.result d other;
       marks = c.note.ensures.marks ∙ sym (cond-true _ _ _ none_left);
-      order = c.note.ensures.order ∙ ap (λ xs. c.args.used.now.order.items ++ xs) (sym (cond-true _ _ _ none_left));
+      order = c.note.ensures.order ∙ ap (λ xs. take c.args.used.now.count c.args.used.now.order ++ xs) (sym (cond-true _ _ _ none_left));
     }
 
 pub returns-else-is_spent : goal.returns-else-is_spent
@@ -28,6 +28,6 @@ returns-else-is_spent g c =
       lowered = map-set f left c.args.k c.minus-rest.result ∙ ap (set (map f left) c.args.k) less;
       others = λ j d other. get_or-set_other left c.args.k j c.minus-rest.result d other;
       marks = sym (cond-false _ _ _ some_left);
-      order = sym (append-nil c.args.used.now.order.items)
-          ∙ ap (λ xs. c.args.used.now.order.items ++ xs) (sym (cond-false _ _ _ some_left));
+      order = sym (append-nil (take c.args.used.now.count c.args.used.now.order))
+          ∙ ap (λ xs. take c.args.used.now.count c.args.used.now.order ++ xs) (sym (cond-false _ _ _ some_left));
     }

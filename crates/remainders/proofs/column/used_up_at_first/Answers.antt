@@ -1,4 +1,4 @@
-use Rattle.std.proofs.Common.{◌≡◌, true, false, cond, [], map, replicate, is_some, sym, ap, ◌∙◌, arith}
+use Rattle.std.proofs.Common.{◌≡◌, true, false, cond, [], map, take, replicate, is_some, sym, ap, ◌∙◌, arith}
 use Rattle.std.proofs.lemmas.List.{append-nil, get_or-replicate}
 use Rattle.std.proofs.lemmas.Bool.{and_from, and_left, and_right}
 use Rattle.remainders.proofs.Reading.{get_or-map_read}
@@ -26,13 +26,13 @@ loop-k-preserved g c =
     let k = c.loop-k.k in
     let used = c.if-is_some.used in
     let linked = ap is_some (sym c.link.ensures) ∙ sym c.is_some.ensures in
-    let on = noted_one_on _ (replicate 200 0) [] k _ _ c.loop-k.invariant (omega (arith, c.loop-k.used.sized)) used.marks used.order.items in
+    let on = noted_one_on _ (replicate 200 0) [] k _ _ c.loop-k.invariant (omega (arith, c.loop-k.used.sized)) used.marks (take used.count used.order) in
     elim c.if-is_some.branch [
       | then-is_some+then-is_spent w ↦
           on true
           (and_from _ _ (linked ∙ w.if-is_some.true) (ap (spent width) (get_or-map_read f left k w.index-left-k.result (omega (arith, c.requires)) w.index-left-k.is) ∙ sym w.is_spent.ensures ∙ w.if-is_spent.true))
           (ap (λ u. u.marks) w.used-is ∙ w.note.ensures.marks)
-          (ap (λ u. u.order.items) w.used-is ∙ w.note.ensures.order)
+          (ap (λ u. take u.count u.order) w.used-is ∙ w.note.ensures.order)
       | else-is_some w ↦
           let passed_by : spent_link width c.args.sheet.now.links.slots (map f left) k ≡ false = elim w.else-is_some.branch [
             | else-is_some-via-then-is_some+else-is_spent v ↦
@@ -41,7 +41,7 @@ loop-k-preserved g c =
           ] in
           on false passed_by
           (ap (λ u. u.marks) w.used-is)
-          (ap (λ u. u.order.items) w.used-is ∙ sym (append-nil _))
+          (ap (λ u. take u.count u.order) w.used-is ∙ sym (append-nil _))
     ]
 
 pub returns : goal.returns
