@@ -1,8 +1,9 @@
 -- Bytes appended in several steps are appended as one, and room for all of them is room for each step.
 -- The rest of what is being appended is named, and not what is there already.
-use Rattle.std.proofs.Common.{◌≡◌, ℕ, zero, suc, ◌+◌, ◌≤◌, List, [], ◌∷◌, ◌++◌, length, take, drop, sym, ap, ap₂, ◌∙◌, arith, append_assoc, append-nil, add_assoc, suc-add, zero-add, length-append, drop_of_length-le, take_all, drop-drop}
+use Rattle.std.proofs.Common.{◌≡◌, ℕ, zero, suc, ◌+◌, ◌<◌, ◌≤◌, List, [], ◌∷◌, ◌++◌, length, take, drop, set, sym, refl, ap, ap₂, ◌∙◌, arith, append_assoc, append-nil, add-zero, add_assoc, add-one, suc-add, zero-add, length-append, take-append-drop, drop_of_length-le, take_all, drop-drop}
 use Rattle.std.proofs.lemmas.Grind.{common_steps}
-use lib.Seq.{take-append_seam, drop-append-add, drop-nil}
+use lib.Seq.{take-append_seam, drop-append-add, drop-nil, set_split}
+use Rattle.annex.specs.Lines.{laid}
 use Rattle.annex.specs.Places.{written, HasRoom, Appends}
 use Rattle.annex.specs.declared.text.Text.{Text}
 
@@ -29,7 +30,26 @@ written_then t at bs cs =
     rw (take_written t at bs, drop_written t at bs (length cs), length-append bs cs, ← add_assoc at (length bs) (length cs))
     (append_assoc (take at t) bs _ ∙ ap (λ l. take at t ++ l) (sym (append_assoc bs cs _)))
 
-appends_then : {s t u : Text} (bs cs : List ℕ) → Appends s bs t → Appends t cs u → Appends s (bs ++ cs) u
+-- one byte set is one byte written
+pub written_byte : (t : List ℕ) (at b : ℕ) → at < length t → set t at b ≡ written t at (b ∷ [])
+written_byte t at b h = rw add-one (set_split t at b h)
+
+-- what is written from the first byte on is laid there
+pub written_at_start : (t line : List ℕ) → written t 0 line ≡ laid line t
+written_at_start t line = rw zero-add refl
+
+-- nothing appended
+pub appends_nothing : (s : Text) → Appends s [] s
+appends_nothing s =
+    record {
+      bytes = rw add-zero (sym (take-append-drop s.at s.bytes.now));
+      size = refl;
+      next = sym (add-zero s.at);
+      same_buffer = refl;
+    }
+
+-- two appends, the second behind the first, are one
+pub appends_then : {s t u : Text} (bs cs : List ℕ) → Appends s bs t → Appends t cs u → Appends s (bs ++ cs) u
 appends_then {s} bs cs p q =
     record {
       bytes = q.bytes ∙ ap₂ (λ l k. written l k cs) p.bytes p.next ∙ written_then s.bytes.now s.at bs cs;
