@@ -15,7 +15,7 @@ length_more_le true s m ns small le =
 length_more_le false s m ns small le = omega arith
 
 -- a station takes at most three bytes
-length_stations_le : (set s k : ℕ) → s + k ≤ 64 → length (spaced (rising_from set s k)) ≤ 3 * k
+pub length_stations_le : (set s k : ℕ) → s + k ≤ 64 → length (spaced (rising_from set s k)) ≤ 3 * k
 length_stations_le set s zero h = omega arith
 length_stations_le set s (suc k) h =
     omega (arith, length_more_le (has set s) s (3 * k) (rising_from set (suc s) k) (omega arith) (length_stations_le set (suc s) k (omega arith)))

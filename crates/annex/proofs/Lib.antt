@@ -1,2 +1,4 @@
 pub mod Appending
 pub mod Lengths
+pub mod Listed
+pub mod Carried

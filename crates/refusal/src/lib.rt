@@ -126,6 +126,26 @@ impl Refusal {
     }
 }
 
+impl LinkRefusal {
+    /// The number of the refusal that it becomes.
+    pub fn number(self) -> u8
+        ensures { result ≡ number_of (refusal_of_link self) }
+    {
+        let of_link = Refusal::from(self);
+        of_link.number()
+    }
+}
+
+impl TreeRefusal {
+    /// The number of the refusal that it becomes.
+    pub fn number(self) -> u8
+        ensures { result ≡ number_of (refusal_of_tree self) }
+    {
+        let of_tree = Refusal::from(self);
+        of_tree.number()
+    }
+}
+
 impl From<LinkRefusal> for Refusal {
     ghost from_gives = { λ why refusal. refusal ≡ refusal_of_link why };
 
