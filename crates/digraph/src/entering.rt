@@ -11,5 +11,5 @@ pub fn enters(link: Option<Link>, set: u64) -> bool
     requires { Low link }
     ensures { result ≡ enters_set link set }
 {
-    link.is_some_and(|Link { tail, head }| holds(set, head) && !holds(set, tail))
+    matches!(&link, Some(Link { tail, head }) if holds(set, *head) && !holds(set, *tail))
 }
