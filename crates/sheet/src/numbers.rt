@@ -3,6 +3,7 @@
 ghost use Rattle.std.specs.Prelude.{◌≡◌, ℕ, ◌<◌, List, length, slice_index};
 
 /// A list of link numbers that can be read place by place.
+// It is read by its places, and no slice is asked for: a list may lie in pieces, or wider than its numbers are.
 pub trait Numbers {
     /// The numbers, first to last.
     ghost numbers: { Self → List ℕ };

@@ -17,6 +17,7 @@ pub fn place_records<T: Amount>(sheet: &mut Sheet, records: &[u8]) -> Result<(),
     requires { length records.now ≤ 4096 }
     ensures { result_map_both (λ _. held sheet.new) (λ e. e) result ≡ placing 0 (held sheet.old) (entries_from T.width records.now 0 (length records.now / length_of_record T.width)) }
 {
+    // By place, and not over pieces of a record's length: so what a record is stands in `record_at` alone.
     for place in 0..count_records::<T>(records) {
         let record = record_at::<T>(records, place);
         sheet

@@ -57,11 +57,10 @@ returns-clause-sheet g c = λ spans d.
     let es = entries_from w f.records.now 0 (length f.records.now / length_of_record w) in
     let h = held c.place_records.new.sheet in
     let after = held c.plant.new.self in
-    let same = map-id f.tree.now in
     let p = c.in_ok-place_records.ensures ∙ ap (λ x. placing 0 x es) c.for_stations-sheet.ensures in
     sym (planted_ok c.plant.result after (sym c.map_err.ensures.variant ∙ ap is_ok c.in_ok-map_err.was))
     ∙ tree_decides f.stations.count es f.tree.now spans h p c.plant.result after (eqb-false (length f.tree.now) 0 (sym c.if-is_empty.ensures))
-    ((rw same at c.plant.ensures.refusal) spans (same_tree_decided f.stations.count es f.tree.now spans h p d)) (rw same at c.plant.ensures.holds)
+    ((rw map-id at c.plant.ensures.refusal) spans (same_tree_decided f.stations.count es f.tree.now spans h p d)) (rw map-id at c.plant.ensures.holds)
 
 pub returns-in_err-map_err-clause-sheet : goal.returns-in_err-map_err-clause-sheet
 returns-in_err-map_err-clause-sheet g c = λ spans d.
@@ -70,10 +69,9 @@ returns-in_err-map_err-clause-sheet g c = λ spans d.
     let es = entries_from w f.records.now 0 (length f.records.now / length_of_record w) in
     let h = held c.place_records.new.sheet in
     let after = held c.plant.new.self in
-    let same = map-id f.tree.now in
     let p = c.in_ok-place_records.ensures ∙ ap (λ x. placing 0 x es) c.for_stations-sheet.ensures in
     let q = err_from_is_err_and c.from_residual-in_err-map_err.result c.from_residual-in_err-map_err.ensures.1 in
     rw (q.1, q.2)
     (sym (planted_err c.plant.result c.map_err.result _ after c.map_err.ensures.cases c.in_err-map_err.was)
     ∙ tree_decides f.stations.count es f.tree.now spans h p c.plant.result after (eqb-false (length f.tree.now) 0 (sym c.if-is_empty.ensures))
-    ((rw same at c.plant.ensures.refusal) spans (same_tree_decided f.stations.count es f.tree.now spans h p d)) (rw same at c.plant.ensures.holds))
+    ((rw map-id at c.plant.ensures.refusal) spans (same_tree_decided f.stations.count es f.tree.now spans h p d)) (rw map-id at c.plant.ensures.holds))
