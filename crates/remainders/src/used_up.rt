@@ -1,5 +1,5 @@
 //! The links with nothing left.
-ghost use Rattle.std.specs.Prelude.{◌≡◌, ◌+◌, ◌<◌, [], ◌∷◌, ◌++◌, length, take, set, replicate, slice_index};
+ghost use Rattle.std.specs.Prelude.{◌≡◌, ℕ, ◌+◌, ◌<◌, ◌≤◌, [], ◌∷◌, ◌++◌, length, take, set, replicate, slice_index};
 ghost use Rattle.stages.specs.Taking.{first_entering};
 ghost use Rattle.remainders.specs.Marks.{unmarked};
 
@@ -18,6 +18,8 @@ pub struct UsedUp {
     ghost sized: { length marks ≡ 200 },
     ghost long: { length order ≡ 200 },
     ghost room: { count + unmarked marks ≡ 200 },
+    // Behind the numbers stand zeros, so that `==` compares the numbers alone.
+    ghost clear: { (i : ℕ) → count ≤ i → slice_index order i ≡ 0 },
 }
 
 impl UsedUp {
