@@ -18,7 +18,7 @@ pub struct UsedUp {
     ghost sized: { length marks ≡ 200 },
     ghost long: { length order ≡ 200 },
     ghost room: { count + unmarked marks ≡ 200 },
-    // Behind the numbers stand zeros, so that `==` compares the numbers alone.
+    // Behind the numbers stand zeros, so that of the order `==` compares the numbers alone.
     ghost clear: { (i : ℕ) → count ≤ i → slice_index order i ≡ 0 },
 }
 

@@ -34,3 +34,11 @@ fn other_links_are_not_equal(rt: HostRuntime) {
     other.note(199);
     assert_ne!(rt; one, other);
 }
+
+// The arrays of orders agree here, as behind the numbers stand zeros; the counts and the marks do not.
+#[test]
+fn link_0_noted_is_not_equal_to_none(rt: HostRuntime) {
+    let mut one = UsedUp::none();
+    one.note(0);
+    assert_ne!(rt; one, UsedUp::none());
+}
